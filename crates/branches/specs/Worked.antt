@@ -1,0 +1,64 @@
+-- Branches over written uses, by computation. Each case shuts out a wrong reading of 01; the codes are those of its examples where it has one. Assumes nothing.
+use Prim.Native.Nat.{ℕ}
+use Prim.Native.String.{String}
+use mathlib.Core.Bool.{Bool, true, false, _&&_, not}
+use mathlib.Core.List.{List, [], _∷_}
+use lib.Dec.{T}
+use Rattle.laws.specs.Lists.{every, same}
+use Rattle.chars.specs.Quoted.{bytes}
+use Rattle.rule_text.specs.Fields.{alternatives}
+use Rattle.branches.specs.Branches.{Use, endsWith, extend, met, step, run, over, start, codes}
+
+-- uses, and the codes that they give
+pub record Case : Type 0 where
+  pub uses : List Use
+  pub listed : List (List ℕ)
+
+abbrev takes : String → Use
+takes a = record { alternatives = alternatives (bytes a); anyway = false }
+
+abbrev forced : String → Use
+forced a = record { alternatives = alternatives (bytes a); anyway = true }
+
+abbrev case : List Use → String → Case
+case us listed = record { uses = us; listed = alternatives (bytes listed) }
+
+abbrev sameLists : List (List ℕ) → List (List ℕ) → Bool
+sameLists [] [] = true
+sameLists [] (y ∷ ys) = false
+sameLists (x ∷ xs) [] = false
+sameLists (x ∷ xs) (y ∷ ys) = same x y && sameLists xs ys
+
+abbrev holds : Case → Bool
+holds c = sameLists (codes (c .uses)) (c .listed)
+
+abbrev cases : List Case
+cases =
+    -- "after `43`, `3` is not appended; after `3`, `43` is": ends-with, and not equality
+    case (takes "43" ∷ takes "3" ∷ []) "430000"
+    ∷ case (takes "3" ∷ takes "43" ∷ []) "343000"
+    -- m then n
+    ∷ case (takes "6" ∷ takes "6" ∷ []) "600000"
+    ∷ case (takes "6" ∷ forced "6" ∷ []) "660000"
+    -- `mon`: the empty alternative becomes the last replacement
+    ∷ case (takes "6" ∷ takes "" ∷ takes "6" ∷ []) "660000"
+    -- `rwrwrwc`: merging asks for the last replacement too, which is set although the code is full
+    ∷ case (takes "9" ∷ takes "7" ∷ takes "9" ∷ takes "7" ∷ takes "9" ∷ takes "7" ∷ takes "4|5" ∷ []) "979797|979797"
+    -- `z` with `4|4`: equal in both is dropped
+    ∷ case (takes "4|4" ∷ []) "400000"
+    -- `cc`: each branch, in order, meets each alternative, in order
+    ∷ case (takes "4|5" ∷ takes "4|5" ∷ []) "400000|450000|540000|500000"
+    -- `sjs` of the standard rules: merged on digits alone, 400000 would be lost
+    ∷ case (takes "4" ∷ takes "|4" ∷ takes "4" ∷ []) "440000|400000"
+    -- cut at six; the whole alternative is the last replacement
+    ∷ case (takes "12345" ∷ takes "67" ∷ []) "123456"
+    ∷ []
+
+pub worked : T (every holds cases)
+unfolding alternatives endsWith extend met step run
+worked = tt
+
+-- "the branch list, at the start or after some step, is longer than room": room for one does not hold the two of the middle, nor none the start
+pub room : T (over 1 (takes "123456" ∷ takes "4|5" ∷ takes "123456" ∷ []) start && (not (over 2 (takes "123456" ∷ takes "4|5" ∷ takes "123456" ∷ []) start) && over 0 [] start))
+unfolding alternatives endsWith extend met step over
+room = tt

@@ -1,0 +1,1 @@
+// Branches: a branch, its extension by an alternative, and one step of all branches.

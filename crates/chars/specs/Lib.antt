@@ -1,0 +1,4 @@
+pub mod Utf8
+pub mod Letters
+pub mod Quoted
+pub mod Worked

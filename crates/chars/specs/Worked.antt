@@ -1,0 +1,43 @@
+-- Each kind of ill-formed bytes, and characters of each width, by computation. Assumes nothing.
+use Prim.Native.Nat.{ℕ}
+use mathlib.Core.Bool.{Bool, true, false, _&&_, not}
+use mathlib.Core.List.{List, [], _∷_}
+use lib.Dec.{T}
+use Rattle.laws.specs.Lists.{every, same}
+use Rattle.chars.specs.Utf8.{textFrom, isText, charsFrom, charsOf}
+use Rattle.chars.specs.Quoted.{bytes}
+
+-- bytes that are not UTF-8
+abbrev bad : List (List ℕ)
+bad =
+    -- overlong: U+002F in two bytes, U+07FF in three, U+FFFF in four
+    (0xC0 ∷ 0xAF ∷ []) ∷ (0xE0 ∷ 0x9F ∷ 0xBF ∷ []) ∷ (0xF0 ∷ 0x8F ∷ 0xBF ∷ 0xBF ∷ [])
+    -- surrogates: U+D800, U+DFFF
+    ∷ (0xED ∷ 0xA0 ∷ 0x80 ∷ []) ∷ (0xED ∷ 0xBF ∷ 0xBF ∷ [])
+    -- above U+10FFFF; a first byte from F8 on
+    ∷ (0xF4 ∷ 0x90 ∷ 0x80 ∷ 0x80 ∷ []) ∷ (0xF8 ∷ 0x88 ∷ 0x80 ∷ 0x80 ∷ 0x80 ∷ []) ∷ (0xFF ∷ [])
+    -- a lone tail, in front and behind a whole character
+    ∷ (0x80 ∷ []) ∷ (0xC3 ∷ 0xA9 ∷ 0xA9 ∷ [])
+    -- cut short, at the end and by a character that follows
+    ∷ (0xC3 ∷ []) ∷ (0xE2 ∷ 0x82 ∷ []) ∷ (0xF0 ∷ 0x9F ∷ 0x98 ∷ []) ∷ (0xE2 ∷ 0x82 ∷ 0x61 ∷ []) ∷ (0xC3 ∷ 0xC3 ∷ 0xA9 ∷ [])
+    ∷ []
+
+abbrev refused : List ℕ → Bool
+refused s = not (isText s)
+
+pub ill-formed : T (every refused bad)
+unfolding textFrom
+ill-formed = tt
+
+-- the last before and the first behind each edge
+abbrev edges : List ℕ
+edges = 0x00 ∷ 0x7F ∷ 0x80 ∷ 0x7FF ∷ 0x800 ∷ 0xD7FF ∷ 0xE000 ∷ 0xFFFF ∷ 0x10000 ∷ 0x10FFFF ∷ []
+
+abbrev edgeBytes : List ℕ
+edgeBytes =
+    0x00 ∷ 0x7F ∷ 0xC2 ∷ 0x80 ∷ 0xDF ∷ 0xBF ∷ 0xE0 ∷ 0xA0 ∷ 0x80 ∷ 0xED ∷ 0x9F ∷ 0xBF ∷ 0xEE ∷ 0x80 ∷ 0x80 ∷ 0xEF ∷ 0xBF ∷ 0xBF ∷ 0xF0 ∷ 0x90 ∷ 0x80 ∷ 0x80 ∷ 0xF4
+    ∷ 0x8F ∷ 0xBF ∷ 0xBF ∷ []
+
+pub well-formed : T (isText edgeBytes && same (charsOf edgeBytes) edges && same (bytes "aÀ€😀") (0x61 ∷ 0xC3 ∷ 0x80 ∷ 0xE2 ∷ 0x82 ∷ 0xAC ∷ 0xF0 ∷ 0x9F ∷ 0x98 ∷ 0x80 ∷ []))
+unfolding textFrom charsFrom
+well-formed = tt

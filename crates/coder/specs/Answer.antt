@@ -1,0 +1,70 @@
+-- What encode and list answer. 01, "Numbers that come back": "Encode and list check 10, 1, 2, 11, 12. [..] Encode and list answer number and count of
+-- codes, 0 on refusal. [..] After success the bytes behind the result are as lent; after refusal all are." Assumes nothing.
+use Prim.Native.Nat.{ℕ, _+_, _/_}
+use mathlib.Core.Bool.{Bool, true, false, cond}
+use mathlib.Core.Option.{Option, none, some}
+use mathlib.Core.List.{List, [], _∷_, _++_, map}
+use lib.Dec.{ltb, leb}
+use lib.ListN.{length, take, drop}
+use Rattle.laws.specs.Lists.{every}
+use Rattle.chars.specs.Utf8.{isText, charsOf}
+use Rattle.plate.specs.Plate.{Plate}
+use Rattle.plate.specs.Read.{readPlate}
+use Rattle.branches.specs.Branches.{Use, start, over, codes}
+use Rattle.coder.specs.Name.{allowed, prepared}
+use Rattle.coder.specs.Walk.{uses}
+
+pub record Coded : Type 0 where
+  pub number : ℕ
+  pub count : ℕ
+  pub buffer : List ℕ
+
+abbrev pub refusal : ℕ → List ℕ → Coded
+refusal number lent = record { number = number; count = 0; buffer = lent }
+
+-- "Codes are joined by `|`"
+unfoldable pub joined : List (List ℕ) → List ℕ
+joined [] = []
+joined (c ∷ []) = c
+joined (c ∷ d ∷ more) = c ++ (124 ∷ joined (d ∷ more))
+
+abbrev pub listing : List (List ℕ) → List ℕ → Coded
+listing cs lent = record { number = 0; count = length cs; buffer = joined cs ++ drop (length (joined cs)) lent }
+
+-- "Room is the smaller of 64 and (buffer length + 1) divided by 7, rounded down."
+abbrev pub smaller : ℕ → ℕ → ℕ
+smaller a b = cond (leb a b) a b
+
+unfoldable pub room : List ℕ → ℕ
+room lent = smaller 64 ((length lent + 1) / 7)
+
+-- "Refusal 12 for list: the branch list, at the start or after some step, is longer than room."
+abbrev pub listed : List Use → List ℕ → Coded
+listed us lent = cond (over (room lent) us start) (refusal 12 lent) (listing (codes us) lent)
+
+-- "Encode takes the first alternative only."
+abbrev pub firstOnly : Use → Use
+firstOnly u = record { alternatives = take 1 (u .alternatives); anyway = u .anyway }
+
+-- "For encode: the buffer is under 6 bytes."
+abbrev pub encoded : List Use → List ℕ → Coded
+encoded us lent = cond (ltb (length lent) 6) (refusal 12 lent) (listing (codes (map firstOnly us)) lent)
+
+-- 1: "name over 256 bytes"; 2: "not UTF-8"; 11: "name holds a character neither White_Space nor below U+0180"
+abbrev pub named : (List Use → List ℕ → Coded) → Plate → List ℕ → List ℕ → Coded
+named call p name lent =
+    cond (ltb 256 (length name)) (refusal 1 lent)
+    (cond (isText name)
+    (cond (every allowed (charsOf name)) (call (uses (p .rules) (prepared p name)) lent) (refusal 11 lent))
+    (refusal 2 lent))
+
+-- 10: "bytes that are not a plate"
+abbrev pub plated : (List Use → List ℕ → Coded) → Option Plate → List ℕ → List ℕ → Coded
+plated call none name lent = refusal 10 lent
+plated call (some p) name lent = named call p name lent
+
+unfoldable pub listAnswer : List ℕ → List ℕ → List ℕ → Coded
+listAnswer plate name lent = plated listed (readPlate plate) name lent
+
+unfoldable pub encodeAnswer : List ℕ → List ℕ → List ℕ → Coded
+encodeAnswer plate name lent = plated encoded (readPlate plate) name lent

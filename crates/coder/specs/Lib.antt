@@ -1,0 +1,6 @@
+pub mod Name
+pub mod Walk
+pub mod Answer
+pub mod Case
+pub mod Starred
+pub mod Pinned

@@ -1,0 +1,19 @@
+-- Facts on lists that every layer uses. Assumes nothing.
+use mathlib.Core.Path.{_≡_, refl, sym, ap, _∙_}
+use mathlib.Core.Bool.{Bool, true, false, _&&_}
+use mathlib.Core.List.{List, [], _∷_, _++_, append-assoc}
+use Prim.Native.Nat.{ℕ, _-_, _≤_}
+use native.Mathlib.Omega.{arith}
+use lib.ListN.{length, take, drop, length-drop}
+use lib.Seq.{take-all}
+use Rattle.laws.specs.Lists.{every, cat}
+use Rattle.laws.proofs.Tests.{and-true, both-true}
+
+-- The part of a slice from a place on, as `&s[at..]` lends it, is what stands from there.
+pub rest : {A : Type 0} (at : ℕ) (s : List A) → take (length s - at) (drop at s) ≡ drop at s
+rest at s = take-all (length s - at) (drop at s) (simp length-drop (omega arith))
+
+-- The lists of two lists, one behind the other, are the lists of the first and then those of the second.
+pub cat-append : {A : Type 0} (f : A → List ℕ) (xs ys : List A) → cat f (xs ++ ys) ≡ cat f xs ++ cat f ys
+cat-append f [] ys = refl
+cat-append f (x ∷ xs) ys = ap (λ (l : List ℕ). f x ++ l) (cat-append f xs ys) ∙ sym (append-assoc (f x) (cat f xs) (cat f ys))

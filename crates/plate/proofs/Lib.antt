@@ -1,0 +1,4 @@
+pub mod Packed
+pub mod Place
+pub mod Listed
+pub mod Round

@@ -1,0 +1,47 @@
+-- A plate's bits and bytes. 01, "The plate, bits most significant first". Assumes nothing.
+use Prim.Native.Nat.{ℕ, _-_}
+use mathlib.Core.Bool.{Bool, true, false, cond}
+use mathlib.Core.List.{List, [], _∷_, _++_}
+use lib.ListN.{length}
+use Rattle.laws.specs.Lists.{cat}
+use Rattle.plate.specs.Bits.{bitsOf, pack}
+use Rattle.plate.specs.Plate.{Folding, Rule, Plate, Edition, edition1}
+
+-- a list: how many in w bits, then one behind the other
+abbrev pub counted : {A : Type 0} → ℕ → (A → List ℕ) → List A → List ℕ
+counted w f xs = bitsOf w (length xs) ++ cat f xs
+
+-- "4 bits a digit"
+abbrev pub digitBits : ℕ → List ℕ
+digitBits d = bitsOf 4 (d - 48)
+
+-- "per alternative 3 bits digit count and 4 bits a digit"
+abbrev pub alternativeBits : List ℕ → List ℕ
+alternativeBits = counted 3 digitBits
+
+-- "three fields (start, before vowel, default), each 4 bits count, then [the alternatives]"
+abbrev pub fieldBits : List (List ℕ) → List ℕ
+fieldBits = counted 4 alternativeBits
+
+-- "Rules: 5 bits pattern length in bytes, the bytes; then three fields"
+abbrev pub ruleBits : Rule → List ℕ
+ruleBits r = counted 5 (bitsOf 8) (r .pattern) ++ (fieldBits (r .start) ++ (fieldBits (r .vowel) ++ fieldBits (r .other)))
+
+-- "Foldings, stored whatever the flag: 21 bits key, 21 bits target"
+abbrev pub foldingBits : Folding → List ℕ
+foldingBits f = bitsOf 21 (f .key) ++ bitsOf 21 (f .target)
+
+abbrev pub flagBit : Bool → ℕ
+flagBit b = cond b 1 0
+
+-- "8 bits edition 1; 10 bits rule count; 8 bits folding count; 1 bit folding flag; 5 zero bits": 32 in all, whatever the width of the rule count
+abbrev pub headBits : Edition → Plate → List ℕ
+headBits e p =
+    bitsOf 8 (e .number) ++ (bitsOf (e .width) (length (p .rules)) ++ (bitsOf 8 (length (p .foldings)) ++ (bitsOf 1 (flagBit (p .flag)) ++ bitsOf (15 - e .width) 0)))
+
+abbrev pub plateBits : Edition → Plate → List ℕ
+plateBits e p = headBits e p ++ (cat foldingBits (p .foldings) ++ cat ruleBits (p .rules))
+
+-- "Zero bits fill the last byte."
+abbrev pub plateBytes : Edition → Plate → List ℕ
+plateBytes e p = pack (plateBits e p)

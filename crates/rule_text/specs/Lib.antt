@@ -1,0 +1,4 @@
+pub mod Forms
+pub mod Items
+pub mod Fields
+pub mod Worked

@@ -1,0 +1,80 @@
+// Rule text: the forms of an item on the rest of the text, and the alternatives of a field.
+// Places are counted from the first byte of the rest.
+
+// The place behind a form, or that it does not fit.
+pub enum Reach {
+    To(usize),
+    No,
+}
+
+// A quoted part: where its content starts and ends, and the place behind the closing quote.
+pub enum Quoted {
+    Held {
+        start: usize,
+        end: usize,
+        next: usize,
+    },
+    No,
+}
+
+// A character and the place behind it.
+pub enum Letter {
+    Is(u32, usize),
+    No,
+}
+
+// A rule's four parts: where each one's content starts and ends, and the place behind the line end.
+pub enum Parts {
+    Four {
+        pattern: usize,
+        pattern_end: usize,
+        start: usize,
+        start_end: usize,
+        vowel: usize,
+        vowel_end: usize,
+        other: usize,
+        other_end: usize,
+        next: usize,
+    },
+    No,
+}
+
+// A folding: its key, its target, and the place behind the line end.
+pub enum Pair {
+    Folds { key: u32, target: u32, next: usize },
+    No,
+}
+
+// A block comment: how many newlines stand inside it, and the place behind the line end.
+pub enum Block {
+    Lines { newlines: usize, next: usize },
+    No,
+}
+
+// An item: the first form that fits.
+pub enum Entry {
+    Rule {
+        pattern: usize,
+        pattern_end: usize,
+        start: usize,
+        start_end: usize,
+        vowel: usize,
+        vowel_end: usize,
+        other: usize,
+        other_end: usize,
+        next: usize,
+    },
+    Folding {
+        key: u32,
+        target: u32,
+        next: usize,
+    },
+    LineEnd {
+        next: usize,
+    },
+    Comment {
+        newlines: usize,
+        next: usize,
+    },
+    Unknown,
+}
