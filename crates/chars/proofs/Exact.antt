@@ -2,7 +2,7 @@
 -- Both hold by the four ranges of RFC 3629's table: within one, the digits base 64 of the character are the bytes. Assumes nothing.
 use mathlib.Core.Path.{_≡_, refl, sym, ap, ap₂, subst, _∙_}
 use mathlib.Core.Logic.{⊎-elim}
-use mathlib.Core.Bool.{Bool, true, false, cond, _&&_, _||_, false≢true}
+use mathlib.Core.Bool.{Bool, true, false, _&&_, _||_, false≢true}
 use mathlib.Core.List.{List, [], _∷_, _++_}
 use Prim.Native.Nat.{ℕ, zero, suc, _+_, _-_, _*_, _/_, _%_, _<_, _≤_}
 use native.Mathlib.Omega.{arith}
@@ -11,8 +11,8 @@ use borrow.Author.Tests.{leb-true, leb-false, le-leb, lt-leb}
 use lib.Dec.{leb}
 use lib.ListN.{length, take, drop, take-append-drop}
 use lib.Seq.{drop-append-seam}
-use Rattle.laws.specs.Lists.{every, between, cat}
-use Rattle.laws.proofs.Tests.{and-true, both-true, or-true, by-test, between-true, is-between, below-between, above-between}
+use Rattle.laws.specs.Lists.{every, between}
+use Rattle.laws.proofs.Tests.{and-true, both-true, or-true, by-test, between-true, is-between, above-between}
 use Rattle.chars.specs.Utf8.{scalar, bytesOf, bytesOfAll, tail, two, three, four, charOf, isOne, codeOf, widthOf, textFrom, charsFrom, isText, charsOf}
 use Rattle.chars.specs.declared.Char.{Char}
 use Rattle.chars.specs.declared.Char.the-variants.{One, Bad, End}
@@ -150,44 +150,44 @@ encoded-chars (c ∷ cs) h =
 
 -- ---- what decodes was encoded
 
--- What holds of an answer on s: the character is a scalar value, and its bytes stand in front of s.
+-- What holds of an answer on s: a character is a scalar value, and its bytes stand in front of s; only of no bytes is the answer that they end.
 abbrev pub Front : List ℕ → Char → Type 0
 Front s (One c w) = (scalar c ≡ true) × (take w s ≡ bytesOf c) × (w ≡ length (bytesOf c)) × (w ≤ length s)
-Front s Bad = Unit {0}
-Front s End = Unit {0}
+Front s Bad = 0 < length s
+Front s End = length s ≡ 0
 
 -- The bytes in front, where they are those of a scalar value.
 front : (s : List ℕ) (c w : ℕ) (l : List ℕ) → scalar c ≡ true → bytesOf c ≡ l → take w s ≡ l → w ≡ length l → w ≤ length s → Front s (One c w)
 front s c w l h b e n m = (h, e ∙ sym b, n ∙ sym (ap (λ (x : List ℕ). length x) b), m)
 
 -- A tail byte, from its last six bits.
-tail-is : (b : ℕ) → tail b ≡ true → 0x80 + b % 64 ≡ b
-tail-is b e = let t = between-true 0x80 0xBF b e in omega arith
+tail-of : (b d : ℕ) → tail b ≡ true → d ≡ b % 64 → b ≡ 0x80 + d
+tail-of b d t e = let h = between-true 0x80 0xBF b t in omega arith
 
 front-2 : (a : ℕ) (s : List ℕ) → (0xC0 ≤ a) × (a ≤ 0xDF) → Front (a ∷ s) (two a s)
-front-2 a [] h = tt
-front-2 a (b ∷ s) h = by-test (Front (a ∷ b ∷ s)) (tail b && leb 0x80 c) (One c 2) Bad go (λ e. tt)
+front-2 a [] h = omega arith
+front-2 a (b ∷ s) h = by-test (Front (a ∷ b ∷ s)) (tail b && leb 0x80 c) (One c 2) Bad go (λ e. omega arith)
   where
     c : ℕ
     c = a % 32 * 64 + b % 64
 
+    first : a ≡ 0xC0 + c / 64
+    first = omega arith
+
+    second : c % 64 ≡ b % 64
+    second = omega arith
+
     go : tail b && leb 0x80 c ≡ true → Front (a ∷ b ∷ s) (One c 2)
     go e =
         let t = and-true (tail b) (leb 0x80 c) e in
-        let low = leb-true 0x80 c (t .1) in
-        let k = tail-is b (t .0) in
-        front (a ∷ b ∷ s) c 2 _ (low-scalar c (omega arith)) (two-bytes c low (omega arith)) (λ i. first k i ∷ second k i ∷ []) refl (omega arith)
-      where
-        first : 0x80 + b % 64 ≡ b → a ≡ 0xC0 + c / 64
-        first k = omega arith
-
-        second : 0x80 + b % 64 ≡ b → b ≡ 0x80 + c % 64
-        second k = omega arith
+        front (a ∷ b ∷ s) c 2 _ (low-scalar c (omega arith)) (two-bytes c (leb-true 0x80 c (t .1)) (omega arith))
+        (λ i. first i ∷ tail-of b (c % 64) (t .0) second i ∷ []) refl (omega arith)
 
 front-3 : (a : ℕ) (s : List ℕ) → (0xE0 ≤ a) × (a ≤ 0xEF) → Front (a ∷ s) (three a s)
-front-3 a [] h = tt
-front-3 a (b ∷ []) h = tt
-front-3 a (b ∷ b′ ∷ s) h = by-test (Front (a ∷ b ∷ b′ ∷ s)) (tail b && (tail b′ && (leb 0x800 c && scalar c))) (One c 3) Bad go (λ e. tt)
+front-3 a [] h = omega arith
+front-3 a (b ∷ []) h = omega arith
+front-3 a (b ∷ b′ ∷ s) h =
+    by-test (Front (a ∷ b ∷ b′ ∷ s)) (tail b && (tail b′ && (leb 0x800 c && scalar c))) (One c 3) Bad go (λ e. omega arith)
   where
     c : ℕ
     c = a % 16 * 4096 + b % 64 * 64 + b′ % 64
@@ -207,15 +207,14 @@ front-3 a (b ∷ b′ ∷ s) h = by-test (Front (a ∷ b ∷ b′ ∷ s)) (tail 
         let u = and-true (tail b′) (leb 0x800 c && scalar c) (t .1) in
         let v = and-true (leb 0x800 c) (scalar c) (u .1) in
         front (a ∷ b ∷ b′ ∷ s) c 3 _ (v .1) (three-bytes c (leb-true 0x800 c (v .0)) (omega arith))
-        (λ i. first i ∷ (sym (tail-is b (t .0)) ∙ ap (λ (x : ℕ). 0x80 + x) (sym second)) i ∷ (sym (tail-is b′ (u .0)) ∙ ap (λ (x : ℕ). 0x80 + x) (sym third)) i ∷ [])
-        refl (omega arith)
+        (λ i. first i ∷ tail-of b (c / 64 % 64) (t .0) second i ∷ tail-of b′ (c % 64) (u .0) third i ∷ []) refl (omega arith)
 
 front-4 : (a : ℕ) (s : List ℕ) → (0xF0 ≤ a) × (a ≤ 0xF7) → Front (a ∷ s) (four a s)
-front-4 a [] h = tt
-front-4 a (b ∷ []) h = tt
-front-4 a (b ∷ b′ ∷ []) h = tt
+front-4 a [] h = omega arith
+front-4 a (b ∷ []) h = omega arith
+front-4 a (b ∷ b′ ∷ []) h = omega arith
 front-4 a (b ∷ b′ ∷ b″ ∷ s) h =
-    by-test (Front (a ∷ b ∷ b′ ∷ b″ ∷ s)) (tail b && (tail b′ && (tail b″ && (leb 0x10000 c && scalar c)))) (One c 4) Bad go (λ e. tt)
+    by-test (Front (a ∷ b ∷ b′ ∷ b″ ∷ s)) (tail b && (tail b′ && (tail b″ && (leb 0x10000 c && scalar c)))) (One c 4) Bad go (λ e. omega arith)
   where
     c : ℕ
     c = a % 8 * 262144 + b % 64 * 4096 + b′ % 64 * 64 + b″ % 64
@@ -239,18 +238,18 @@ front-4 a (b ∷ b′ ∷ b″ ∷ s) h =
         let v = and-true (tail b″) (leb 0x10000 c && scalar c) (u .1) in
         let w = and-true (leb 0x10000 c) (scalar c) (v .1) in
         front (a ∷ b ∷ b′ ∷ b″ ∷ s) c 4 _ (w .1) (four-bytes c (leb-true 0x10000 c (w .0)))
-        (λ i. first i ∷ (sym (tail-is b (t .0)) ∙ ap (λ (x : ℕ). 0x80 + x) (sym second)) i ∷ (sym (tail-is b′ (u .0)) ∙ ap (λ (x : ℕ). 0x80 + x) (sym third)) i ∷ (sym (tail-is b″ (v .0)) ∙ ap (λ (x : ℕ). 0x80 + x) (sym fourth)) i ∷ [])
-        refl (omega arith)
+        (λ i. first i ∷ tail-of b (c / 4096 % 64) (t .0) second i ∷ tail-of b′ (c / 64 % 64) (u .0) third i ∷ tail-of b″ (c % 64) (v .0) fourth i ∷ []) refl (omega arith)
 
-front-one : (s : List ℕ) → Front s (charOf s)
-front-one [] = tt
+-- What stands in front of any bytes.
+pub front-one : (s : List ℕ) → Front s (charOf s)
+front-one [] = refl
 front-one (a ∷ s) =
     by-test (Front (a ∷ s)) (leb a 0x7F) _ _
     (λ e. let h = leb-true a 0x7F e in front (a ∷ s) a 1 _ (low-scalar a (omega arith)) (one-byte a h) refl refl (omega arith))
     λ e.
     by-test (Front (a ∷ s)) (between 0xC0 0xDF a) (two a s) _ (λ f. front-2 a s (between-true 0xC0 0xDF a f)) λ f.
     by-test (Front (a ∷ s)) (between 0xE0 0xEF a) (three a s) _ (λ g. front-3 a s (between-true 0xE0 0xEF a g)) λ g.
-    by-test (Front (a ∷ s)) (between 0xF0 0xF7 a) (four a s) Bad (λ k. front-4 a s (between-true 0xF0 0xF7 a k)) (λ k. tt)
+    by-test (Front (a ∷ s)) (between 0xF0 0xF7 a) (four a s) Bad (λ k. front-4 a s (between-true 0xF0 0xF7 a k)) (λ k. omega arith)
 
 -- One character: what is decoded is a scalar value, and the bytes it was decoded from are its bytes.
 pub decoded-one : (s : List ℕ) (c w : ℕ) → charOf s ≡ One c w → Front s (One c w)

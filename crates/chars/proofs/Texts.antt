@@ -1,12 +1,11 @@
 -- A text, one character at a time: what a character in front says of the text. Assumes nothing.
-use mathlib.Core.Path.{_≡_, refl, ap, _∙_}
-use mathlib.Core.Bool.{Bool, true, false}
+use mathlib.Core.Path.{_≡_, refl, ap}
 use mathlib.Core.List.{List, [], _∷_}
-use Prim.Native.Nat.{ℕ, zero, suc, _+_, _-_, _<_, _≤_}
+use Prim.Native.Nat.{ℕ, zero, suc, _-_, _≤_}
 use native.Mathlib.Omega.{arith}
 use native.Mathlib.Numerals.{sub-one}
-use lib.ListN.{length, drop}
-use Rattle.chars.specs.Utf8.{charOf, textFrom, charsFrom, isText, charsOf, isOne, codeOf, widthOf}
+use lib.ListN.{drop}
+use Rattle.chars.specs.Utf8.{charOf, textFrom, charsFrom, isText, charsOf}
 use Rattle.chars.specs.declared.Char.{Char}
 use Rattle.chars.specs.declared.Char.the-variants.{One, Bad, End}
 

@@ -1,8 +1,23 @@
-// Characters: UTF-8, White_Space, lowercase, vowels.
+// Characters: UTF-8, White_Space, vowels, lowercase.
+pub mod utf8; // utf8.rt: the character at a place; whole texts
+pub mod letters; // letters.rt: White_Space and vowels
+pub mod lower; // lower.rt: lowercase, by a table
 
 // What stands in front of some bytes: a character with its width in bytes, a sequence that is not UTF-8, or nothing.
 pub enum Char {
     One(u32, usize),
     Bad,
     End,
+}
+
+// A whole text: the place of the first sequence that is not UTF-8, or, of UTF-8, whether it holds a zero byte.
+pub enum Checked {
+    BadAt(usize),
+    Text(bool),
+}
+
+// The character that follows, or none.
+pub enum Next {
+    Is(u32),
+    None,
 }

@@ -1,3 +1,5 @@
 pub mod Tests
 pub mod Lists
+pub mod Only
+pub mod Table
 pub mod Bits

@@ -3,7 +3,7 @@ use mathlib.Core.Path.{_≡_, refl, sym, _∙_}
 use mathlib.Core.Logic.{_⊎_, inl, inr}
 use mathlib.Core.Bool.{Bool, true, false, cond, _&&_, _||_, false≢true}
 use Prim.Native.Nat.{ℕ, _≤_, _<_}
-use borrow.Author.Tests.{leb-true, leb-false, le-leb, lt-leb}
+use borrow.Author.Tests.{leb-true, le-leb, lt-leb}
 use lib.Dec.{T, leb}
 use Rattle.laws.specs.Lists.{between}
 
@@ -55,3 +55,22 @@ below-between low high n h = and-left-false (leb low n) (leb n high) (lt-leb low
 
 pub above-between : (low high n : ℕ) → high < n → between low high n ≡ false
 above-between low high n h = and-right-false (leb low n) (leb n high) (lt-leb n high h)
+
+-- A call's answer is the definition's, and the branch says what it was: so it is the definition's.
+pub told : {r x v : Bool} → r ≡ x → r ≡ v → x ≡ v
+told e h = sym e ∙ h
+
+-- Either-or with what fails is the other.
+pub or-false : (a : Bool) → a || false ≡ a
+or-false true = refl
+or-false false = refl
+
+-- Either-or holds where the second holds.
+pub or-right : (a b : Bool) → b ≡ true → a || b ≡ true
+or-right true b e = refl
+or-right false b e = e
+
+-- Of three in a row it does not matter which two are joined first.
+pub or-assoc : (a b c : Bool) → (a || b) || c ≡ a || (b || c)
+or-assoc true b c = refl
+or-assoc false b c = refl

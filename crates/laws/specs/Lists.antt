@@ -3,7 +3,7 @@
 use Prim.Native.Nat.{ℕ, zero, suc, _-_}
 use mathlib.Core.Path.{_≡_}
 use mathlib.Core.Logic.{_⊎_}
-use mathlib.Core.Bool.{Bool, true, false, cond, _&&_}
+use mathlib.Core.Bool.{Bool, true, false, cond, _&&_, _||_}
 use mathlib.Core.List.{List, [], _∷_, _++_}
 use lib.Dec.{leb, eqb}
 use lib.ListN.{take, drop}
@@ -16,6 +16,11 @@ between low high n = leb low n && leb n high
 abbrev pub every : {A : Type 0} → (A → Bool) → List A → Bool
 every t [] = true
 every t (x ∷ xs) = t x && every t xs
+
+-- one at least passes the test
+abbrev pub some : {A : Type 0} → (A → Bool) → List A → Bool
+some t [] = false
+some t (x ∷ xs) = t x || some t xs
 
 -- those that pass the test, in order
 abbrev pub keep : {A : Type 0} → (A → Bool) → List A → List A

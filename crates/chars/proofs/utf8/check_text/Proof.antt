@@ -1,0 +1,88 @@
+-- `utf8::check_text` meets its contract. The loop keeps: the check from here on is the check from the start. A turn is
+-- Checks.turn-zero or Checks.turn-other, the ways out are Checks.stop and Checks.done; each turn passes a byte at least, so the loop ends. Assumes nothing.
+use mathlib.Core.Path.{_≡_, _∙_}
+use Prim.Native.Nat.{_-_}
+use native.Mathlib.Omega.{arith}
+use borrow.Author.Needs.{needs}
+use lib.ListN.{length, drop}
+use Rattle.chars.specs.Answers.{checked}
+use Rattle.chars.proofs.Checks.{checkedFrom, start, turn-zero, turn-other, stop, done}
+use Rattle.chars.proofs.utf8.check_text.Statement.{statement}
+use Rattle.chars.proofs.utf8.check_text.Tie as tie
+
+abbrev Inv-loop : tie.InvT-loop
+Inv-loop s at₀ holds₀ at holds = checkedFrom at holds (drop at s) ≡ checked s
+
+abbrev μ-loop : tie.MeasureT-loop
+μ-loop s at₀ holds₀ at holds = length s - at
+
+loop-holds : tie.Need-loop-holds Inv-loop μ-loop
+loop-holds c = start (c .before .args .s .now)
+
+char-at-requires : tie.Need-char-at-requires Inv-loop μ-loop
+char-at-requires c κs = search needs
+
+enum-known-c : tie.Need-enum-known-c Inv-loop μ-loop
+enum-known-c c = search needs
+
+add-at : tie.Need-add-at Inv-loop μ-loop
+add-at c = let w = rw (c .before .c .given .1) at (c .before .before .before .char-at .ensures .1) in omega arith
+
+loop-less : tie.Need-loop-less Inv-loop μ-loop
+loop-less c = let w = rw (c .before .before .c .given .1) at (c .before .before .before .before .char-at .ensures .1) in omega arith
+
+loop-again : tie.Need-loop-again Inv-loop μ-loop
+loop-again c =
+    let l = c .before .before .before .before .before .loop in
+    let r = c .before .before .before .before .char-at in
+    let f = c .before .before .c .given in
+    let w = rw (f .1) at (r .ensures .1) in
+    turn-zero (c .before .before .before .before .before .before .before .args .s .now) (l .at) (l .holds) (r .result) (r .ensures .0) (f .0 .0) (f .0 .1 .0) (f .1) (w .0) (c .if1 .taken) ∙ l .inv
+
+loop-less-2 : tie.Need-loop-less-2 Inv-loop μ-loop
+loop-less-2 c = let w = rw (c .before .before .c .given .1) at (c .before .before .before .before .char-at .ensures .1) in omega arith
+
+loop-again-2 : tie.Need-loop-again-2 Inv-loop μ-loop
+loop-again-2 c =
+    let l = c .before .before .before .before .before .loop in
+    let r = c .before .before .before .before .char-at in
+    let f = c .before .before .c .given in
+    let w = rw (f .1) at (r .ensures .1) in
+    turn-other (c .before .before .before .before .before .before .before .args .s .now) (l .at) (l .holds) (r .result) (r .ensures .0) (f .0 .0) (f .0 .1 .0) (f .1) (w .0) (c .if1 .left) ∙ l .inv
+
+enum-told : tie.Need-enum-told Inv-loop μ-loop
+enum-told c = search needs
+
+returns : tie.Need-returns Inv-loop μ-loop
+returns c =
+    let l = c .before .before .before .loop in
+    let r = c .before .before .char-at in
+    stop (c .before .before .before .before .before .args .s .now) (l .at) (l .holds) (r .result) (r .ensures .0) (c .enum-told .given .1) ∙ l .inv
+
+enum-told-2 : tie.Need-enum-told-2 Inv-loop μ-loop
+enum-told-2 c = search needs
+
+returns-2 : tie.Need-returns-2 Inv-loop μ-loop
+returns-2 c =
+    let l = c .before .before .before .loop in
+    let r = c .before .before .char-at in
+    done (c .before .before .before .before .before .args .s .now) (l .at) (l .holds) (r .result) (r .ensures .0) (c .enum-told2 .given .1) ∙ l .inv
+
+pub check-text-spec : {M : Type 1} → statement M
+check-text-spec =
+    tie.close
+    (tie.spec
+    Inv-loop
+    μ-loop
+    loop-holds
+    char-at-requires
+    enum-known-c
+    add-at
+    loop-less
+    loop-again
+    loop-less-2
+    loop-again-2
+    enum-told
+    returns
+    enum-told-2
+    returns-2)

@@ -1,0 +1,37 @@
+// White_Space and vowels.
+ghost use mathlib.Core.Path.{_≡_};
+ghost use Rattle.chars.specs.Letters.{white};
+ghost use Rattle.chars.specs.Answers.{vowelNext};
+use super::Next;
+
+pub fn is_space(c: u32) -> bool
+    ensures { λ r. ⌜ r ≡ white c ⌝ }
+{
+    match c {
+        0x09..=0x0D
+        | 0x20
+        | 0x85
+        | 0xA0
+        | 0x1680
+        | 0x2000..=0x200A
+        | 0x2028
+        | 0x2029
+        | 0x202F
+        | 0x205F
+        | 0x3000 => true,
+        _ => false,
+    }
+}
+
+// None is no vowel.
+pub fn is_vowel(next: Next) -> bool
+    ensures { λ r. ⌜ r ≡ vowelNext next ⌝ }
+{
+    match next {
+        Next::Is(c) => match c {
+            0x61 | 0x65 | 0x69 | 0x6F | 0x75 => true,
+            _ => false,
+        },
+        Next::None => false,
+    }
+}
