@@ -6,3 +6,4 @@ pub mod Whites
 pub mod Vowels
 pub mod Lowering
 pub mod Only
+pub mod Splits

@@ -1,5 +1,7 @@
 pub mod Name
 pub mod Walk
+pub mod Search
+pub mod Wider
 pub mod Answer
 pub mod Case
 pub mod Starred

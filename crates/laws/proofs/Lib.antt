@@ -3,3 +3,4 @@ pub mod Lists
 pub mod Only
 pub mod Table
 pub mod Bits
+pub mod Cuts

@@ -1,0 +1,191 @@
+-- Two texts whose items differ only in further alternatives build plates whose rules differ only so, and along every name such rules are used at the same
+-- places: which rule is used rests on patterns alone. Assumes nothing.
+use mathlib.Core.Path.{_≡_, refl, sym, ap, ap₂, subst, _∙_}
+use mathlib.Core.Bool.{Bool, true, false, cond, _&&_, _||_, false≢true}
+use mathlib.Core.Option.{Option, none, some}
+use mathlib.Core.List.{List, [], _∷_, _++_}
+use Prim.Native.Nat.{ℕ, zero, suc, _-_}
+use native.Mathlib.Omega.{arith}
+use lib.Dec.{ltb, leb, eqb}
+use lib.ListN.{length, drop}
+use Rattle.laws.specs.Lists.{keep, begins}
+use Rattle.rule_text.specs.Items.{Item, lineBehind}
+use Rattle.rule_text.specs.Items.Item.{RuleItem, FoldingItem, LineEndItem, CommentItem, UnknownItem}
+use Rattle.rule_text.specs.Fields.{alternatives, fieldFault}
+use Rattle.plate.specs.Plate.{Folding, Rule, Plate, firstCode, mayPrecede}
+use Rattle.plate.specs.Build.{Book, putRule, putFolding, ruleOf, foldingOf, enter, fault, Verdict, unless, verdict}
+use Rattle.plate.specs.Build.Verdict.{Faulty, Fine}
+use Rattle.branches.specs.Branches.{Use}
+use Rattle.coder.specs.Walk.{letters, startsWith, group, longer, longest, match, field, forced, vowelFollows, Passed, matched, passed, walk, uses}
+use Rattle.coder.specs.Wider.{Further, WiderItem, WiderItems, WiderRule, WiderRules}
+
+-- ---- from items to rules
+
+-- the same foldings, and wider rules
+abbrev WiderBook : Book → Book → Type 0
+WiderBook b c = (c .foldings ≡ b .foldings) × WiderRules (b .rules) (c .rules)
+
+may-same : (r q r′ q′ : Rule) → r′ .pattern ≡ r .pattern → q′ .pattern ≡ q .pattern → mayPrecede r′ q′ ≡ mayPrecede r q
+may-same r q r′ q′ e f i = ltb (code (e i)) (code (f i)) || (eqb (code (e i)) (code (f i)) && leb (length (f i)) (length (e i)))
+  where
+    code : List ℕ → ℕ
+    code p = firstCode (record { pattern = p; start = []; vowel = []; other = [] })
+
+put-wider : (r r′ : Rule) (rs rs′ : List Rule) → WiderRule r r′ → WiderRules rs rs′ → WiderRules (putRule r rs) (putRule r′ rs′)
+put-wider r r′ [] [] h w = (h, tt)
+put-wider r r′ [] (q ∷ qs) h w = absurd w
+put-wider r r′ (q ∷ qs) [] h w = absurd w
+put-wider r r′ (q ∷ qs) (q′ ∷ qs′) h w =
+    subst (λ (t : Bool). WiderRules (putRule r (q ∷ qs)) (cond t (q′ ∷ putRule r′ qs′) (r′ ∷ q′ ∷ qs′))) (sym (may-same q r q′ r′ (w .0 .0) (h .0)))
+    (go (mayPrecede q r) (put-wider r r′ qs qs′ h (w .1)))
+  where
+    go : (t : Bool) → WiderRules (putRule r qs) (putRule r′ qs′) → WiderRules (cond t (q ∷ putRule r qs) (r ∷ q ∷ qs)) (cond t (q′ ∷ putRule r′ qs′) (r′ ∷ q′ ∷ qs′))
+    go true below = (w .0, below)
+    go false below = (h, (w .0, w .1))
+
+enter-wider : (i j : Item) (b c : Book) → WiderItem i j → WiderBook b c → WiderBook (enter i b) (enter j c)
+enter-wider (RuleItem p s v o) (RuleItem p′ s′ v′ o′) b c h w = (w .0, put-wider (ruleOf p s v o) (ruleOf p′ s′ v′ o′) (b .rules) (c .rules) h (w .1))
+enter-wider (RuleItem p s v o) (FoldingItem k t) b c h w = absurd h
+enter-wider (RuleItem p s v o) LineEndItem b c h w = absurd h
+enter-wider (RuleItem p s v o) (CommentItem n) b c h w = absurd h
+enter-wider (RuleItem p s v o) UnknownItem b c h w = absurd h
+enter-wider (FoldingItem k t) j b c h w = subst (λ (x : Item). WiderBook (enter (FoldingItem k t) b) (enter x c)) (sym h) (ap (putFolding (foldingOf k t)) (w .0), w .1)
+enter-wider LineEndItem j b c h w = subst (λ (x : Item). WiderBook b (enter x c)) (sym h) w
+enter-wider (CommentItem n) j b c h w = subst (λ (x : Item). WiderBook b (enter x c)) (sym h) w
+enter-wider UnknownItem j b c h w = subst (λ (x : Item). WiderBook b (enter x c)) (sym h) w
+
+-- Where both texts are without fault, the books they make are wider.
+is-fine : Verdict → Bool
+is-fine (Faulty n line) = false
+is-fine (Fine b) = true
+
+book : Book → Verdict → Book
+book d (Faulty n line) = d
+book d (Fine b) = b
+
+unless-fine : (n line : ℕ) (v : Verdict) (b : Book) → unless n line v ≡ Fine b → v ≡ Fine b
+unfolding is-fine
+unless-fine zero line v b e = e
+unless-fine (suc n) line v b e = absurd (false≢true (ap is-fine e))
+
+pub books-wider : (line line′ : ℕ) (b c : Book) (is js : List Item) → WiderItems is js → WiderBook b c → (d e : Book)
+    → verdict line b is ≡ Fine d → verdict line′ c js ≡ Fine e → WiderBook d e
+unfolding verdict book
+books-wider line line′ b c [] [] h w d e x y = subst (λ (z : Book). WiderBook z e) (ap (book b) x) (subst (λ (z : Book). WiderBook b z) (ap (book c) y) w)
+books-wider line line′ b c [] (j ∷ js) h w d e x y = absurd h
+books-wider line line′ b c (i ∷ is) [] h w d e x y = absurd h
+books-wider line line′ b c (i ∷ is) (j ∷ js) h w d e x y =
+    books-wider (lineBehind line i) (lineBehind line′ j) (enter i b) (enter j c) is js (h .1) (enter-wider i j b c (h .0) w) d e
+    (unless-fine (fault i b) line (verdict (lineBehind line i) (enter i b) is) d x) (unless-fine (fault j c) line′ (verdict (lineBehind line′ j) (enter j c) js) e y)
+
+-- ---- from rules to uses
+
+-- the second has each use of the first, with further alternatives perhaps
+abbrev pub WiderUses : List Use → List Use → Type 0
+WiderUses [] [] = Unit {0}
+WiderUses [] (v ∷ vs) = ⊥
+WiderUses (u ∷ us) [] = ⊥
+WiderUses (u ∷ us) (v ∷ vs) = Further (u .alternatives) (v .alternatives) × (v .anyway ≡ u .anyway) × WiderUses us vs
+
+keep-wider : (t : List ℕ → Bool) (rs qs : List Rule) → WiderRules rs qs → WiderRules (keep (λ r. t (letters r)) rs) (keep (λ r. t (letters r)) qs)
+keep-wider t [] [] w = tt
+keep-wider t [] (q ∷ qs) w = absurd w
+keep-wider t (r ∷ rs) [] w = absurd w
+keep-wider t (r ∷ rs) (q ∷ qs) w =
+    subst (λ (b : Bool). WiderRules (keep (λ x. t (letters x)) (r ∷ rs)) (cond b (q ∷ keep (λ x. t (letters x)) qs) (keep (λ x. t (letters x)) qs))) (sym (same (w .0 .0)))
+    (go (t (letters r)) (keep-wider t rs qs (w .1)))
+  where
+    same : q .pattern ≡ r .pattern → t (letters q) ≡ t (letters r)
+    same e i = t (letters (record { pattern = e i; start = []; vowel = []; other = [] }))
+
+    go : (b : Bool) → WiderRules (keep (λ x. t (letters x)) rs) (keep (λ x. t (letters x)) qs)
+        → WiderRules (cond b (r ∷ keep (λ x. t (letters x)) rs) (keep (λ x. t (letters x)) rs)) (cond b (q ∷ keep (λ x. t (letters x)) qs) (keep (λ x. t (letters x)) qs))
+    go true below = (w .0, below)
+    go false below = below
+
+abbrev WiderOption : Option Rule → Option Rule → Type 0
+WiderOption none none = Unit {0}
+WiderOption none (some q) = ⊥
+WiderOption (some r) none = ⊥
+WiderOption (some r) (some q) = WiderRule r q
+
+letters-same : (r q : Rule) → WiderRule r q → letters q ≡ letters r
+letters-same r q w i = letters (record { pattern = w .0 i; start = []; vowel = []; other = [] })
+
+longest-wider : (rs qs : List Rule) → WiderRules rs qs → WiderOption (longest rs) (longest qs)
+longest-wider [] [] w = tt
+longest-wider [] (q ∷ qs) w = absurd w
+longest-wider (r ∷ rs) [] w = absurd w
+longest-wider (r ∷ rs) (q ∷ qs) w = go (longest rs) (longest qs) (longest-wider rs qs (w .1))
+  where
+    pick : (x y : Rule) → WiderRule x y → (b : Bool) → WiderOption (cond b (some x) (some r)) (cond b (some y) (some q))
+    pick x y h true = h
+    pick x y h false = w .0
+
+    go : (o p : Option Rule) → WiderOption o p → WiderOption (longer r o) (longer q p)
+    go none none h = w .0
+    go none (some y) h = absurd h
+    go (some x) none h = absurd h
+    go (some x) (some y) h =
+        subst (λ (b : Bool). WiderOption (longer r (some x)) (cond b (some y) (some q)))
+        (ap₂ (λ (k l : List ℕ). ltb (length k) (length l)) (sym (letters-same r q (w .0))) (sym (letters-same x y h)))
+        (pick x y h (ltb (length (letters r)) (length (letters x))))
+
+field-wider : (before : Option ℕ) (behind : List ℕ) (r q : Rule) → WiderRule r q → Further (field before behind r) (field before behind q)
+field-wider none behind r q w = w .1
+field-wider (some b) behind r q w = go (vowelFollows behind)
+  where
+    go : (v : Bool) → Further (cond v (r .vowel) (r .other)) (cond v (q .vowel) (q .other))
+    go true = w .2
+    go false = w .3
+
+abbrev WiderPassed : Passed → Passed → Type 0
+WiderPassed p q = WiderUses (p .uses) (q .uses) × (q .before ≡ p .before) × (q .skip ≡ p .skip)
+
+matched-wider : (before : Option ℕ) (c : ℕ) (cs : List ℕ) (o p : Option Rule) → WiderOption o p → WiderPassed (matched before c cs o) (matched before c cs p)
+matched-wider before c cs none none w = (tt, refl, refl)
+matched-wider before c cs none (some q) w = absurd w
+matched-wider before c cs (some r) none w = absurd w
+matched-wider before c cs (some r) (some q) w = (
+  (
+    subst (λ (l : List ℕ). Further (field before (drop (length (letters r)) (c ∷ cs)) r) (field before (drop (length l) (c ∷ cs)) q)) (sym (letters-same r q w))
+        (field-wider before (drop (length (letters r)) (c ∷ cs)) r q w),
+    refl,
+    tt,
+  ),
+  refl,
+  ap (λ (l : List ℕ). length l - 1) (letters-same r q w),
+)
+
+passed-wider : (before : Option ℕ) (c : ℕ) (cs : List ℕ) (rs qs : List Rule) → WiderRules rs qs → WiderPassed (passed before c cs rs) (passed before c cs qs)
+passed-wider before c cs [] [] w = (tt, refl, refl)
+passed-wider before c cs [] (q ∷ qs) w = absurd w
+passed-wider before c cs (r ∷ rs) [] w = absurd w
+passed-wider before c cs (r ∷ rs) (q ∷ qs) w =
+    matched-wider before c cs (match (r ∷ rs) (c ∷ cs)) (match (q ∷ qs) (c ∷ cs))
+    (longest-wider (keep (λ x. begins (letters x) (c ∷ cs)) (r ∷ rs)) (keep (λ x. begins (letters x) (c ∷ cs)) (q ∷ qs)) (keep-wider (λ p. begins p (c ∷ cs)) (r ∷ rs) (q ∷ qs) w))
+
+append-wider : (us vs xs ys : List Use) → WiderUses us vs → WiderUses xs ys → WiderUses (us ++ xs) (vs ++ ys)
+append-wider [] [] xs ys w z = z
+append-wider [] (v ∷ vs) xs ys w z = absurd w
+append-wider (u ∷ us) [] xs ys w z = absurd w
+append-wider (u ∷ us) (v ∷ vs) xs ys w z = (w .0, w .1, append-wider us vs xs ys (w .2) z)
+
+walk-wider : (rs qs : List Rule) → WiderRules rs qs → (before : Option ℕ) (k : ℕ) (cs : List ℕ) → WiderUses (walk rs before k cs) (walk qs before k cs)
+unfolding walk
+walk-wider rs qs w before k [] = tt
+walk-wider rs qs w before (suc k) (c ∷ cs) = walk-wider rs qs w before k cs
+walk-wider rs qs w before zero (c ∷ cs) =
+    go (passed before c cs (group rs c)) (passed before c cs (group qs c)) (passed-wider before c cs (group rs c) (group qs c) (keep-wider (startsWith c) rs qs w))
+    (λ b k. walk-wider rs qs w b k cs)
+  where
+    go : (p q : Passed) → WiderPassed p q → ((b : Option ℕ) (k : ℕ) → WiderUses (walk rs b k cs) (walk qs b k cs))
+        → WiderUses (p .uses ++ walk rs (p .before) (p .skip) cs) (q .uses ++ walk qs (q .before) (q .skip) cs)
+    go p q h below =
+        append-wider (p .uses) (q .uses) (walk rs (p .before) (p .skip) cs) (walk qs (q .before) (q .skip) cs) (h .0)
+        (subst (λ (b : Option ℕ). WiderUses (walk rs (p .before) (p .skip) cs) (walk qs b (q .skip) cs)) (sym (h .1))
+        (subst (λ (k : ℕ). WiderUses (walk rs (p .before) (p .skip) cs) (walk qs (p .before) k cs)) (sym (h .2)) (below (p .before) (p .skip))))
+
+-- Wider rules are used at the same places of every name, with further alternatives perhaps.
+pub uses-wider : (rs qs : List Rule) → WiderRules rs qs → (cs : List ℕ) → WiderUses (uses rs cs) (uses qs cs)
+uses-wider rs qs w cs = walk-wider rs qs w none 0 cs

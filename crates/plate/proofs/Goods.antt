@@ -1,0 +1,205 @@
+-- What build writes is accepted, and says what the text says. The items of a text are clean, an item that is clean and without fault keeps a good book good,
+-- and the blank book is good: so the plate of the last book is good, and the bytes of a good plate are accepted and read back. Assumes nothing.
+use Prim.Native.Nat.{ℕ, zero, suc, _<_, _≤_}
+use mathlib.Core.Path.{_≡_, refl, ap, subst, _∙_}
+use mathlib.Core.Bool.{Bool, true, false, cond, _&&_}
+use mathlib.Core.Option.{some}
+use mathlib.Core.List.{List, [], _∷_}
+use native.Mathlib.Omega.{arith}
+use borrow.Author.Tests.{ltb-true, ltb-false, leb-true, leb-false, eqb-false, lt-ltb, le-leb}
+use lib.Dec.{ltb, leb, eqb, lit<}
+use lib.ListN.{length, take, drop}
+use lib.Seq.{take-append-seam}
+use Rattle.laws.specs.Lists.{every}
+use Rattle.laws.proofs.Tests.{and-true, both-true, by-test, is-between}
+use Rattle.chars.specs.Utf8.{isText}
+use Rattle.rule_text.specs.Items.{Item, items, firstLine, lineBehind}
+use Rattle.rule_text.specs.Items.Item.{RuleItem, FoldingItem, LineEndItem, CommentItem, UnknownItem}
+use Rattle.rule_text.specs.Fields.{bar, onto, alternatives, isAlternative, fieldFault}
+use Rattle.rule_text.proofs.Clean.{Clean, AllClean, items-clean}
+use Rattle.plate.specs.Plate.{
+  Folding,
+  Rule,
+  Plate,
+  edition1,
+  mostFoldings,
+  goodField,
+  nonzeroByte,
+  goodRule,
+  goodFolding,
+  rising,
+  ordered,
+  goodFoldings,
+  goodRules,
+  goodPlate,
+}
+use Rattle.plate.specs.Written.{plateBytes}
+use Rattle.plate.specs.Read.{acceptedIn, readPlate}
+use Rattle.plate.specs.Build.{
+  Book,
+  blank,
+  putRule,
+  putFolding,
+  ruleOf,
+  foldingOf,
+  enter,
+  when,
+  firstFault,
+  ruleFault,
+  fault,
+  Verdict,
+  unless,
+  verdict,
+  Built,
+  refusal,
+  answered,
+  nonzero,
+  buildAnswer,
+}
+use Rattle.plate.specs.Build.Verdict.{Faulty, Fine}
+use Rattle.plate.proofs.Packed.{Bytes}
+use Rattle.plate.proofs.Round.{edition1-reads, edition1-accepted}
+use Rattle.plate.proofs.Sorted.{put-ordered, put-every, put-length, put-rising, put-each}
+
+-- ---- a field without fault is good
+
+onto-one : (c : ℕ) (l : List (List ℕ)) → 1 ≤ length (onto c l)
+onto-one c [] = omega arith
+onto-one c (a ∷ more) = omega arith
+
+one-alternative : (f : List ℕ) → 1 ≤ length (alternatives f)
+unfolding alternatives
+one-alternative [] = omega arith
+one-alternative (c ∷ cs) =
+    by-test (λ (l : List (List ℕ)). 1 ≤ length l) (eqb c bar) ([] ∷ alternatives cs) (onto c (alternatives cs)) (λ e. omega arith) (λ e. onto-one c (alternatives cs))
+
+field-good : (f : List ℕ) → fieldFault f ≡ 0 → goodField (alternatives f) ≡ true
+field-good f e = go (leb (length (alternatives f)) 8) (every isAlternative (alternatives f)) refl refl e
+  where
+    go : (few digits : Bool) → leb (length (alternatives f)) 8 ≡ few → every isAlternative (alternatives f) ≡ digits → _≡_ {A = ℕ} (cond few (cond digits 0 7) 6) 0
+        → goodField (alternatives f) ≡ true
+    go true true a b z = both-true (is-between 1 8 (length (alternatives f)) (one-alternative f) (leb-true (length (alternatives f)) 8 a)) b
+    go true false a b z = absurd (omega arith)
+    go false digits a b z = absurd (omega arith)
+
+-- ---- a rule without fault is good
+
+-- each is 0
+abbrev Zeros : List ℕ → Type 0
+Zeros [] = Unit {0}
+Zeros (n ∷ more) = (n ≡ 0) × Zeros more
+
+no-fault : (l : List ℕ) → firstFault l ≡ 0 → Zeros l
+no-fault [] e = tt
+no-fault (zero ∷ more) e = (refl, no-fault more e)
+no-fault (suc n ∷ more) e = absurd (omega arith)
+
+not-when : (b : Bool) (n : ℕ) → 0 < n → when b n ≡ 0 → b ≡ false
+not-when true n h e = absurd (omega arith)
+not-when false n h e = refl
+
+rule-good : (p s v o : List ℕ) (n : ℕ) → (isText p ≡ true) × (every nonzeroByte p ≡ true) → ruleFault p s v o n ≡ 0 → (goodRule (ruleOf p s v o) ≡ true) × (n < 512)
+rule-good p s v o n c e =
+    let none = no-fault (when (eqb (length p) 0) 4 ∷ when (ltb 16 (length p)) 5 ∷ fieldFault s ∷ fieldFault v ∷ fieldFault o ∷ when (leb 512 n) 8 ∷ []) e in
+    let fields = none .1 .1 in
+    let filled = eqb-false (length p) 0 (not-when (eqb (length p) 0) 4 (lit< tt) (none .0)) in
+    let short = ltb-false 16 (length p) (not-when (ltb 16 (length p)) 5 (lit< tt) (none .1 .0)) in (
+      both-true (both-true (is-between 1 16 (length p) (omega arith) short) (both-true (c .1) (c .0)))
+          (both-true (field-good s (fields .0)) (both-true (field-good v (fields .1 .0)) (field-good o (fields .1 .1 .0)))),
+      leb-false 512 n (not-when (leb 512 n) 8 (lit< tt) (fields .1 .1 .1 .0)),
+    )
+
+-- ---- an item that is clean and without fault keeps a good book good
+
+abbrev Good : Book → Type 0
+Good b = (goodRules (edition1 .most) (b .rules) ≡ true) × (goodFoldings (b .foldings) ≡ true)
+
+rules-good : (r : Rule) (l : List Rule) → goodRule r ≡ true → length l < 512 → goodRules 512 l ≡ true → goodRules 512 (putRule r l) ≡ true
+rules-good r l g h k =
+    let a = and-true (leb (length l) 512) (every goodRule l && ordered l) k in
+    let b = and-true (every goodRule l) (ordered l) (a .1) in
+    both-true (le-leb (length (putRule r l)) 512 (omega (arith, put-length r l))) (both-true (put-every goodRule r l g (b .0)) (put-ordered r l (b .1)))
+
+foldings-good : (f : Folding) (l : List Folding) → goodFolding f ≡ true → length (putFolding f l) ≤ 128 → goodFoldings l ≡ true → goodFoldings (putFolding f l) ≡ true
+foldings-good f l g h k =
+    let a = and-true (leb (length l) mostFoldings) (every goodFolding l && rising l) k in
+    let b = and-true (every goodFolding l) (rising l) (a .1) in
+    both-true (le-leb (length (putFolding f l)) 128 h) (both-true (put-each goodFolding f l g (b .0)) (put-rising f l (b .1)))
+
+enter-good : (i : Item) (b : Book) → Clean nonzeroByte i → fault i b ≡ 0 → Good b → Good (enter i b)
+enter-good (RuleItem p s v o) b c e g = let r = rule-good p s v o (length (b .rules)) c e in (rules-good (ruleOf p s v o) (b .rules) (r .0) (r .1) (g .0), g .1)
+enter-good (FoldingItem key target) b c e g =
+    let f = foldingOf key target in
+    let n = length (putFolding f (b .foldings)) in (
+      g .0,
+      foldings-good f (b .foldings)
+          (both-true (both-true (lt-ltb 0 key (c .1)) (c .0)) (both-true (lt-ltb 0 target (c .3)) (c .2)))
+          (ltb-false mostFoldings n (not-when (ltb mostFoldings n) 8 (lit< tt) e)) (g .1),
+    )
+enter-good LineEndItem b c e g = g
+enter-good (CommentItem newlines) b c e g = g
+enter-good UnknownItem b c e g = absurd (omega arith)
+
+-- A verdict is a good book, or a fault with its number.
+abbrev Fair : Verdict → Type 0
+Fair (Faulty number line) = number ≡ 0 → ⊥
+Fair (Fine b) = Good b
+
+verdict-fair : (line : ℕ) (b : Book) (is : List Item) → AllClean nonzeroByte is → Good b → Fair (verdict line b is)
+unfolding verdict
+verdict-fair line b [] c g = g
+verdict-fair line b (i ∷ more) c g = go (fault i b) (λ e. verdict-fair (lineBehind line i) (enter i b) more (c .1) (enter-good i b (c .0) e g))
+  where
+    go : (n : ℕ) → (n ≡ 0 → Fair (verdict (lineBehind line i) (enter i b) more)) → Fair (unless n line (verdict (lineBehind line i) (enter i b) more))
+    go zero f = f refl
+    go (suc n) f = λ e. omega arith
+
+bytes-nonzero : (l : List ℕ) → Bytes l → every nonzero l ≡ true → every nonzeroByte l ≡ true
+bytes-nonzero [] b h = refl
+bytes-nonzero (x ∷ xs) b h =
+    let a = and-true (nonzero x) (every nonzero xs) h in
+    let above = ltb-true 0 x (a .0) in
+    let below = b .0 in both-true (is-between 1 255 x (omega arith) (omega arith)) (bytes-nonzero xs (b .1) (a .1))
+
+text-fair : (text : List ℕ) → Bytes text → isText text && every nonzero text ≡ true → Fair (verdict firstLine blank (items text))
+text-fair text bytes h =
+    let a = and-true (isText text) (every nonzero text) h in
+    verdict-fair firstLine blank (items text) (items-clean nonzeroByte refl text (a .0) (bytes-nonzero text bytes (a .1))) (refl, refl)
+
+-- ---- the plate that a text says
+
+-- The plate of a book, with a folding flag.
+abbrev pub plateOf : Bool → Book → Plate
+plateOf flag b = record { flag = flag; foldings = b .foldings; rules = b .rules }
+
+-- A text without fault says a good plate.
+pub build-good : (text : List ℕ) → Bytes text → isText text && every nonzero text ≡ true → (b : Book) → verdict firstLine blank (items text) ≡ Fine b
+    → (flag : Bool) → goodPlate edition1 (plateOf flag b) ≡ true
+build-good text bytes h b e flag = let g = subst Fair e (text-fair text bytes h) in both-true (g .0) (g .1)
+
+-- What an answer of build says: with number 0 the text has no fault, and the bytes written are accepted and read back as the plate that the text says.
+abbrev pub Accepted : List ℕ → Bool → Built → Type 0
+Accepted text flag a =
+    a .number ≡ 0
+    → (b : Book)
+    × (verdict firstLine blank (items text) ≡ Fine b)
+    × (acceptedIn edition1 (take (a .length) (a .buffer)) ≡ true)
+    × (readPlate (take (a .length) (a .buffer)) ≡ some (plateOf flag b))
+
+-- What build writes is accepted, and reads back as what the text says.
+pub build-accepted : (text : List ℕ) (flag : Bool) (lent : List ℕ) → Bytes text → Accepted text flag (buildAnswer text flag lent)
+unfolding buildAnswer
+build-accepted text flag lent bytes =
+    by-test (Accepted text flag) (ltb 65536 (length text)) (refusal 1 0 lent) _ (λ e n. absurd (omega arith)) λ e.
+    by-test (Accepted text flag) (isText text && every nonzero text) _ (refusal 2 0 lent)
+    (λ h. go (verdict firstLine blank (items text)) refl (text-fair text bytes h)) (λ h n. absurd (omega arith))
+  where
+    go : (v : Verdict) → verdict firstLine blank (items text) ≡ v → Fair v → Accepted text flag (answered flag lent v)
+    go (Faulty number line) e f = λ n. absurd (f n)
+    go (Fine b) e f =
+        let p = plateOf flag b in
+        let s = plateBytes edition1 p in
+        let good : goodPlate edition1 p ≡ true = both-true (f .0) (f .1) in
+        let same = take-append-seam s (drop (length s) lent) in
+        by-test (Accepted text flag) (ltb (length lent) (length s)) (refusal 9 0 lent) _ (λ h n. absurd (omega arith))
+        (λ h n. (b, e, ap (acceptedIn edition1) same ∙ edition1-accepted p good, ap readPlate same ∙ edition1-reads p good))
