@@ -2,11 +2,12 @@
 use Prim.Native.Nat.{ℕ}
 use mathlib.Core.Bool.{Bool, true, false, cond, not, _||_}
 use mathlib.Core.List.{List, [], _∷_, map}
-use lib.Dec.{ltb, eqb}
+use lib.Dec.{ltb}
 use Rattle.laws.specs.Lists.{every, keep}
 use Rattle.chars.specs.Utf8.{charsOf}
 use Rattle.chars.specs.Letters.{white, lowerOf}
-use Rattle.plate.specs.Plate.{Folding, Plate}
+use Rattle.plate.specs.Plate.{Plate}
+use Rattle.plate.specs.Read.{foldBy}
 
 -- "a character neither White_Space nor below U+0180" is what a name may not hold
 abbrev pub allowed : ℕ → Bool
@@ -15,11 +16,6 @@ allowed c = white c || ltb c 0x180
 -- "Drop the 25 White_Space characters"
 abbrev pub inked : ℕ → Bool
 inked c = not (white c)
-
--- the target of a key; a character that is no key stays
-unfoldable pub foldBy : List Folding → ℕ → ℕ
-foldBy [] c = c
-foldBy (f ∷ more) c = cond (eqb (f .key) c) (f .target) (foldBy more c)
 
 -- "Lowercase each other character [..]. With the flag on, fold once, never again."
 abbrev pub coded : Plate → ℕ → ℕ

@@ -14,7 +14,7 @@ use Rattle.rule_text.specs.Fields.{alternatives}
 use Rattle.plate.specs.Bits.{bit, numberAt}
 use Rattle.plate.specs.Build.{buildAnswer, verdict}
 use Rattle.branches.specs.Branches.{endsWith, extend, met, step, run, over}
-use Rattle.coder.specs.Name.{foldBy}
+use Rattle.plate.specs.Read.{foldBy}
 use Rattle.coder.specs.Walk.{walk}
 use Rattle.coder.specs.Answer.{joined, room, listAnswer, encodeAnswer}
 use Rattle.coder.specs.Case.{Case, Codes, holds}

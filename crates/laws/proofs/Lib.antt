@@ -4,3 +4,4 @@ pub mod Only
 pub mod Table
 pub mod Bits
 pub mod Cuts
+pub mod Many

@@ -1,6 +1,12 @@
 pub mod Packed
 pub mod Place
 pub mod Listed
+pub mod Facts
 pub mod Round
+pub mod Windows
+pub mod Fronts
+pub mod Accepted
+pub mod Parts
+pub mod Only
 pub mod Sorted
 pub mod Goods

@@ -25,6 +25,7 @@ use Rattle.plate.specs.Read.{many, past, alternativeAt, alternativeEnd, 
 use Rattle.plate.proofs.Packed.{Binary, Bytes, zero-bits, binary-append, binary-bitsOf, binary-cat, unpack-pack, pack-unpack, pack-fill}
 use Rattle.plate.proofs.Place.{number-lt, length-unpack, wrote, reads, At}
 use Rattle.plate.proofs.Listed.{length-many, past-grows, past-add}
+use Rattle.plate.proofs.Facts.{says-good}
 
 -- ---- the flag
 
@@ -378,14 +379,7 @@ module _ (e : Edition) (number : e .number < 256) (width : e .width ≤ 15) (mos
           same,
         )
 
-  -- An accepted plate: what it says is good, and its bits are the plate's and the fill.
-  pub says-good : (s : List ℕ) → acceptedIn e s ≡ true → goodPlate e (plateAt w s) ≡ true
-  says-good s h =
-      let p = plateAt w s in
-      let b = and-true (eqb (numberAt s 0 8) (e .number)) (eqb (reserved w s) 0 && (goodPlate e p && closed s (plateEnd w s))) h in
-      let b1 = and-true (eqb (reserved w s) 0) (goodPlate e p && closed s (plateEnd w s)) (b .1) in
-      and-true (goodPlate e p) (closed s (plateEnd w s)) (b1 .1) .0
-
+  -- The bits of an accepted plate are those of the plate that it says, and the fill.
   written-bits : (s : List ℕ) → acceptedIn e s ≡ true
       → (unpack s ≡ plateBits e (plateAt w s) ++ replicate (8 * length s - plateEnd w s) 0) × (8 * length s - plateEnd w s < 8)
   written-bits s h =
@@ -451,7 +445,7 @@ module _ (e : Edition) (number : e .number < 256) (width : e .width ≤ 15) (mos
       is-some none = false
 
       go : (t : Bool) → acceptedIn e s ≡ t → cond t (some (plateAt w s)) none ≡ some p → (s ≡ plateBytes e p) × (goodPlate e p ≡ true)
-      go true a r = (accepted-exact s b a ∙ ap (plateBytes e) (ap held r), ap (goodPlate e) (sym (ap held r)) ∙ says-good s a)
+      go true a r = (accepted-exact s b a ∙ ap (plateBytes e) (ap held r), ap (goodPlate e) (sym (ap held r)) ∙ says-good e s a)
       go false a r = absurd (false≢true (ap is-some r))
 
 -- ---- edition 1

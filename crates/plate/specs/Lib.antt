@@ -4,3 +4,5 @@ pub mod Written
 pub mod Read
 pub mod Build
 pub mod Worked
+pub mod Answers
+pub mod Stands

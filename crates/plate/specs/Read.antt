@@ -67,6 +67,11 @@ foldingAt s at = record { key = numberAt s at 21; target = numberAt s (at + 21) 
 abbrev pub foldingEnd : ℕ → ℕ
 foldingEnd at = at + 42
 
+-- the target of a key; a character that is no key stays
+unfoldable pub foldBy : List Folding → ℕ → ℕ
+foldBy [] c = c
+foldBy (f ∷ more) c = cond (eqb (f .key) c) (f .target) (foldBy more c)
+
 -- ---- the head, whose rule count is w bits wide: "8 bits edition [..]; 8 bits folding count; 1 bit folding flag; [..] zero bits"
 
 abbrev pub ruleCount : ℕ → List ℕ → ℕ

@@ -1,0 +1,56 @@
+-- Only one answer satisfies each promise of this crate, for each says its answer by an equation. Assumes nothing.
+use Prim.Native.Nat.{ℕ, _^_, _<_, _≤_}
+use mathlib.Core.Path.{_≡_}
+use mathlib.Core.Bool.{Bool}
+use mathlib.Core.List.{List}
+use lib.ListN.{length, take}
+use Rattle.laws.proofs.Only.{only}
+use Rattle.chars.specs.Utf8.{charOf}
+use Rattle.plate.specs.Bits.{numberAt}
+use Rattle.plate.specs.Plate.{edition1}
+use Rattle.plate.specs.Read.{patternAt, ruleAt, ruleEnd, foldBy, ruleCount, rulesPlace, plateAt, acceptedIn}
+use Rattle.plate.specs.Answers.{bytesAt, frontOf, frontTo, goodText}
+use Rattle.plate.specs.Stands.{Stands, LetterIs, fieldOf, heldField}
+use Rattle.plate.specs.declared.Front.{Front}
+use Rattle.plate.specs.declared.Letter.{Letter}
+use Rattle.plate.specs.declared.Field.{Field}
+
+module _ (s : List ℕ) where
+  -- `count` alike
+  pub bits : (at n r r′ : ℕ) → (r ≡ numberAt s at n) × (r < 2 ^ n) → (r′ ≡ numberAt s at n) × (r′ < 2 ^ n) → r ≡ r′
+  bits at n r r′ e f = only (e .0) (f .0)
+
+  -- `wide_front` alike
+  pub front : (at n : ℕ) (r r′ : Front) → (r ≡ frontOf (charOf (bytesAt s n at))) × frontTo r n → (r′ ≡ frontOf (charOf (bytesAt s n at))) × frontTo r′ n → r ≡ r′
+  front at n r r′ e f = only (e .0) (f .0)
+
+  pub is-text : (at n : ℕ) (r r′ : Bool) → r ≡ goodText (bytesAt s n at) → r′ ≡ goodText (bytesAt s n at) → r ≡ r′
+  is-text at n r r′ e f = only e f
+
+  pub accept : (r r′ : Bool) → r ≡ acceptedIn edition1 s → r′ ≡ acceptedIn edition1 s → r ≡ r′
+  accept r r′ e f = only e f
+
+  pub flag : (r r′ : Bool) → r ≡ plateAt (edition1 .width) s .flag → r′ ≡ plateAt (edition1 .width) s .flag → r ≡ r′
+  flag r r′ e f = only e f
+
+  pub fold : (c r r′ : ℕ) → r ≡ foldBy (plateAt (edition1 .width) s .foldings) c → r′ ≡ foldBy (plateAt (edition1 .width) s .foldings) c → r ≡ r′
+  fold c r r′ e f = only e f
+
+  pub rule-count : (r r′ : ℕ) → (r ≡ ruleCount (edition1 .width) s) × Stands s r (rulesPlace (edition1 .width) s)
+      → (r′ ≡ ruleCount (edition1 .width) s) × Stands s r′ (rulesPlace (edition1 .width) s) → r ≡ r′
+  rule-count r r′ e f = only (e .0) (f .0)
+
+  pub first-place : (r r′ : ℕ) → r ≡ rulesPlace (edition1 .width) s → r′ ≡ rulesPlace (edition1 .width) s → r ≡ r′
+  first-place r r′ e f = only e f
+
+  pub next-place : (at r r′ : ℕ) → r ≡ ruleEnd s at → r′ ≡ ruleEnd s at → r ≡ r′
+  next-place at r r′ e f = only e f
+
+  pub pattern-length : (at r r′ : ℕ) → (r ≡ length (patternAt s at)) × (0 < r) × (r ≤ 16) → (r′ ≡ length (patternAt s at)) × (0 < r′) × (r′ ≤ 16) → r ≡ r′
+  pattern-length at r r′ e f = only (e .0) (f .0)
+
+  pub pattern-char : (at k : ℕ) (r r′ : Letter) → LetterIs s at k r → LetterIs s at k r′ → r ≡ r′
+  pattern-char at k r r′ e f = only (e .is) (f .is)
+
+  pub field-at : (at which most : ℕ) (r r′ : Field) → r ≡ heldField (take most (fieldOf (ruleAt s at) which)) → r′ ≡ heldField (take most (fieldOf (ruleAt s at) which)) → r ≡ r′
+  field-at at which most r r′ e f = only e f

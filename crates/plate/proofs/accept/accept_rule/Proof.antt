@@ -1,0 +1,101 @@
+-- `plate::accept::accept_rule` meets its contract: pattern, order and fields are tested in turn, and each refusal is the definition's
+-- (Accepted.rule-pattern, rule-order, rule-fields). Assumes nothing.
+use native.Mathlib.Omega.{arith}
+use borrow.Author.Needs.{needs}
+use Rattle.plate.proofs.Accepted.{rule-pattern, rule-order, rule-fields, rule-good}
+use Rattle.plate.proofs.accept.accept_rule.Statement.{statement}
+use Rattle.plate.proofs.accept.accept_rule.Tie as tie
+
+count-requires : tie.Need-count-requires
+count-requires c κs = search needs
+
+add-accept-pattern : tie.Need-add-accept-pattern
+add-accept-pattern c = search needs
+
+accept-pattern-requires : tie.Need-accept-pattern-requires
+accept-pattern-requires c κs = search needs
+
+enum-known-code : tie.Need-enum-known-code
+enum-known-code c = search needs
+
+enum-told : tie.Need-enum-told
+enum-told c = search needs
+
+returns : tie.Need-returns
+returns c =
+    let a = c .before .before .before .before .before .args in (
+      rule-pattern (a .plate .now) (a .at) (a .c) (a .n) (c .before .before .before .count .result) (c .before .before .before .count .ensures .0) (c .before .before .accept-pattern .result) (c .before .before .accept-pattern .ensures) (c .enum-told .given .1),
+      omega arith,
+    )
+
+in-order-requires : tie.Need-in-order-requires
+in-order-requires c κs = search needs
+
+add-accept-fields : tie.Need-add-accept-fields
+add-accept-fields c = search needs
+
+mul-accept-fields : tie.Need-mul-accept-fields
+mul-accept-fields c = search needs
+
+add-accept-fields-2 : tie.Need-add-accept-fields-2
+add-accept-fields-2 c = search needs
+
+accept-fields-requires : tie.Need-accept-fields-requires
+accept-fields-requires c κs = search needs
+
+enum-known-next : tie.Need-enum-known-next
+enum-known-next c = search needs
+
+enum-told-2 : tie.Need-enum-told-2
+enum-told-2 c = search needs
+
+returns-2 : tie.Need-returns-2
+returns-2 c =
+    let a = c .before .before .before .before .before .before .before .before .before .before .before .args in
+    let v = c .before .before .before .before .before .before .code .given in (
+      rule-fields (a .plate .now) (a .at) (a .c) (a .n) (c .before .before .before .before .before .before .before .before .before .count .result) (c .before .before .before .before .before .before .before .before .before .count .ensures .0) (c .before .before .before .before .before .before .before .before .accept-pattern .result) (c .before .before .before .before .before .before .before .before .accept-pattern .ensures)
+          (v .0 .0) (v .1) (c .before .before .before .before .in-order .result) (c .before .before .before .before .in-order .ensures) (c .before .before .before .if1 .taken) (c .before .before .accept-fields .result) (c .before .before .accept-fields .ensures .0) (c .enum-told2 .given .1),
+      omega arith,
+    )
+
+returns-3 : tie.Need-returns-3
+returns-3 c =
+    let a = c .before .before .before .before .before .before .before .before .before .before .before .before .args in
+    let v = c .before .before .before .before .before .before .before .code .given in
+    let x = c .before .next .given in
+    let b = rw (x .1) at (c .before .before .before .accept-fields .ensures .1) in
+    let n = c .before .before .before .before .before .before .before .before .before .before .count .ensures .1 in (
+      rule-good (a .plate .now) (a .at) (a .c) (a .n) (c .before .before .before .before .before .before .before .before .before .before .count .result) (c .before .before .before .before .before .before .before .before .before .before .count .ensures .0) (c .before .before .before .before .before .before .before .before .before .accept-pattern .result) (c .before .before .before .before .before .before .before .before .before .accept-pattern .ensures)
+          (v .0 .0) (v .1) (c .before .before .before .before .before .in-order .result) (c .before .before .before .before .before .in-order .ensures) (c .before .before .before .before .if1 .taken) (c .before .before .before .accept-fields .result) (c .before .before .before .accept-fields .ensures .0) (x .0 .0) (x .1),
+      omega arith,
+    )
+
+returns-4 : tie.Need-returns-4
+returns-4 c =
+    let a = c .before .before .before .before .before .before .before .before .args in
+    let v = c .before .before .before .code .given in (
+      rule-order (a .plate .now) (a .at) (a .c) (a .n) (c .before .before .before .before .before .before .count .result) (c .before .before .before .before .before .before .count .ensures .0) (c .before .before .before .before .before .accept-pattern .result) (c .before .before .before .before .before .accept-pattern .ensures)
+          (v .0 .0) (v .1) (c .before .in-order .result) (c .before .in-order .ensures) (c .if1 .left),
+      omega arith,
+    )
+
+pub accept-rule-spec : {M : Type 1} → statement M
+accept-rule-spec =
+    tie.close
+    (tie.spec
+    count-requires
+    add-accept-pattern
+    accept-pattern-requires
+    enum-known-code
+    enum-told
+    returns
+    in-order-requires
+    add-accept-fields
+    mul-accept-fields
+    add-accept-fields-2
+    accept-fields-requires
+    enum-known-next
+    enum-told-2
+    returns-2
+    returns-3
+    returns-4)

@@ -1,0 +1,83 @@
+-- `plate::pattern::wide_front` meets its contract: four bytes decide the character in front, with zeros behind the end (Fronts.from-four). Assumes
+-- nothing.
+use Prim.Native.Nat.{_<_}
+use mathlib.Core.Path.{_≡_}
+use borrow.Author.Needs.{needs}
+use Rattle.chars.specs.Utf8.{charOf}
+use Rattle.plate.specs.Answers.{bytesAt}
+use Rattle.plate.proofs.Fronts.{from-four, decoded-zero, decoded-is, decoded-bad, decoded-end}
+use Rattle.plate.proofs.pattern.wide_front.Statement.{statement}
+use Rattle.plate.proofs.pattern.wide_front.Tie as tie
+
+-- There is a first byte, and the decoder saw the bytes.
+some : (c : tie.After-char-from) → 0 < c .before .before .before .before .before .before .args .n
+some c = c .before .before .before .before .before .before .pre .1
+
+whole : (c : tie.After-char-from) → let a = c .before .before .before .before .before .before .args in c .char-from .result ≡ charOf (bytesAt (a .plate .now) (a .n) (a .at))
+whole c =
+    let a = c .before .before .before .before .before .before .args in
+    from-four (a .plate .now) (a .n) (a .at) (some c) (c .before .before .before .before .byte-at .result) (c .before .before .before .byte-at2 .result) (c .before .before .byte-at3 .result) (c .before .byte-at4 .result) (c .char-from .result)
+    (c .before .before .before .before .byte-at .ensures) (c .before .before .before .byte-at2 .ensures) (c .before .before .byte-at3 .ensures) (c .before .byte-at4 .ensures) (c .char-from .ensures)
+
+byte-at-requires : tie.Need-byte-at-requires
+byte-at-requires c κs = search needs
+
+byte-at-requires-2 : tie.Need-byte-at-requires-2
+byte-at-requires-2 c κs = search needs
+
+byte-at-requires-3 : tie.Need-byte-at-requires-3
+byte-at-requires-3 c κs = search needs
+
+byte-at-requires-4 : tie.Need-byte-at-requires-4
+byte-at-requires-4 c κs = search needs
+
+char-from-requires : tie.Need-char-from-requires
+char-from-requires c κs = search needs
+
+enum-known-code : tie.Need-enum-known-code
+enum-known-code c = search needs
+
+returns : tie.Need-returns
+returns c =
+    let a = c .before .before .before .before .before .before .before .before .before .before .args in
+    let v = c .before .before .code .given in
+    decoded-zero (a .plate .now) (a .n) (a .at) (some (c .before .before .before .before)) (c .before .before .before .before .char-from .result) (whole (c .before .before .before .before)) (v .0 .0) (v .0 .1 .0) (v .1) (c .if1 .taken)
+
+enum-told : tie.Need-enum-told
+enum-told c = search needs
+
+enum-told-2 : tie.Need-enum-told-2
+enum-told-2 c = search needs
+
+returns-2 : tie.Need-returns-2
+returns-2 c =
+    let a = c .before .before .before .before .before .before .before .before .before .before .args in
+    let v = c .before .before .code .given in
+    decoded-is (a .plate .now) (a .n) (a .at) (some (c .before .before .before .before)) (c .before .before .before .before .char-from .result) (whole (c .before .before .before .before)) (v .0 .0) (v .0 .1 .0) (v .1) (c .if1 .left)
+
+returns-3 : tie.Need-returns-3
+returns-3 c =
+    let a = c .before .before .before .before .before .before .before .before .args in
+    decoded-bad (a .plate .now) (a .n) (a .at) (some (c .before .before)) (c .before .before .char-from .result) (whole (c .before .before)) (c .enum-told .given .1)
+
+returns-4 : tie.Need-returns-4
+returns-4 c =
+    let a = c .before .before .before .before .before .before .before .before .args in
+    decoded-end (a .plate .now) (a .n) (a .at) (some (c .before .before)) (c .before .before .char-from .result) (whole (c .before .before)) (c .enum-told2 .given .1)
+
+pub wide-front-spec : {M : Type 1} → statement M
+wide-front-spec =
+    tie.close
+    (tie.spec
+    byte-at-requires
+    byte-at-requires-2
+    byte-at-requires-3
+    byte-at-requires-4
+    char-from-requires
+    enum-known-code
+    returns
+    enum-told
+    enum-told-2
+    returns-2
+    returns-3
+    returns-4)

@@ -1,0 +1,98 @@
+-- `plate::read::fold` meets its contract: what the foldings left say of the character is what all say; keys rise, so below the first key stands none
+-- (Parts.fold-below). Assumes nothing.
+use Prim.Native.Nat.{ℕ, _+_, _*_, _≤_}
+use mathlib.Core.Path.{_≡_, _∙_, ap}
+use mathlib.Core.Bool.{true}
+use native.Mathlib.Omega.{arith}
+use Rattle.plate.specs.Plate.{edition1, rising}
+use Rattle.plate.specs.Read.{many, foldingAt, foldingEnd, foldBy, foldingCount}
+use Rattle.plate.proofs.Facts.{keys-rise}
+use Rattle.plate.proofs.Parts.{fold-below, fold-hit, fold-miss, fold-rest, fold-end}
+use Rattle.plate.proofs.read.fold.Statement.{statement}
+use Rattle.plate.proofs.read.fold.Tie as tie
+
+abbrev Inv-loop : tie.InvT-loop
+Inv-loop plate c at₀ left₀ at left =
+    (at + 42 * left ≤ 20000) × (rising (many (foldingAt plate) foldingEnd left at) ≡ true)
+    × (foldBy (many (foldingAt plate) foldingEnd left at) c ≡ foldBy (many (foldingAt plate) foldingEnd (foldingCount (edition1 .width) plate) 32) c)
+
+abbrev μ-loop : tie.MeasureT-loop
+μ-loop plate c at₀ left₀ at left = left
+
+count-requires : tie.Need-count-requires Inv-loop μ-loop
+count-requires c κs = omega arith
+
+loop-holds : tie.Need-loop-holds Inv-loop μ-loop
+loop-holds c =
+    let a = c .before .before .args in
+    let s = a .plate .now in
+    let h = c .count .ensures .1 in (
+      omega arith,
+      ap (λ (n : ℕ). rising (many (foldingAt s) foldingEnd n 32)) (c .count .ensures .0) ∙ keys-rise edition1 s (c .before .before .pre),
+      ap (λ (n : ℕ). foldBy (many (foldingAt s) foldingEnd n 32) (a .c)) (c .count .ensures .0),
+    )
+
+bits-requires : tie.Need-bits-requires Inv-loop μ-loop
+bits-requires c κs = omega arith
+
+returns : tie.Need-returns Inv-loop μ-loop
+returns c =
+    let a = c .before .before .before .before .before .before .args in
+    let l = c .before .before .before .loop in
+    fold-below (a .plate .now) (a .c) (l .at) (l .left) (c .before .before .loop-test .taken) (c .before .bits .result) (c .before .bits .ensures .0) (l .inv .1) (c .if1 .taken) ∙ l .inv .2
+
+add-bits : tie.Need-add-bits Inv-loop μ-loop
+add-bits c = omega arith
+
+bits-requires-2 : tie.Need-bits-requires-2 Inv-loop μ-loop
+bits-requires-2 c κs = omega arith
+
+returns-2 : tie.Need-returns-2 Inv-loop μ-loop
+returns-2 c =
+    let a = c .before .before .before .before .before .before .before .before .args in
+    let l = c .before .before .before .before .before .loop in
+    fold-hit (a .plate .now) (a .c) (l .at) (l .left) (c .before .before .before .before .loop-test .taken) (c .before .before .before .bits .result) (c .before .before .before .bits .ensures .0) (c .before .if2 .taken) (c .bits2 .result) (c .bits2 .ensures .0)
+    ∙ l .inv .2
+
+add-at : tie.Need-add-at Inv-loop μ-loop
+add-at c = omega arith
+
+sub-left : tie.Need-sub-left Inv-loop μ-loop
+sub-left c = omega arith
+
+loop-less : tie.Need-loop-less Inv-loop μ-loop
+loop-less c = omega arith
+
+loop-again : tie.Need-loop-again Inv-loop μ-loop
+loop-again c =
+    let a = c .before .before .before .before .before .before .before .args in
+    let l = c .before .before .before .before .loop in (
+      omega arith,
+      fold-rest (a .plate .now) (a .c) (l .at) (l .left) (c .before .before .before .loop-test .taken) (c .before .before .bits .result) (c .before .before .bits .ensures .0) (l .inv .1),
+      fold-miss (a .plate .now) (a .c) (l .at) (l .left) (c .before .before .before .loop-test .taken) (c .before .before .bits .result) (c .before .before .bits .ensures .0) (c .if2 .left) ∙ l .inv .2,
+    )
+
+returns-3 : tie.Need-returns-3 Inv-loop μ-loop
+returns-3 c =
+    let a = c .before .before .before .before .args in
+    let l = c .before .loop in
+    fold-end (a .plate .now) (a .c) (l .at) (l .left) (c .loop-test .left) ∙ l .inv .2
+
+pub fold-spec : {M : Type 1} → statement M
+fold-spec =
+    tie.close
+    (tie.spec
+    Inv-loop
+    μ-loop
+    count-requires
+    loop-holds
+    bits-requires
+    returns
+    add-bits
+    bits-requires-2
+    returns-2
+    add-at
+    sub-left
+    loop-less
+    loop-again
+    returns-3)

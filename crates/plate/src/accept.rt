@@ -1,0 +1,252 @@
+// Which bytes are a plate, in one pass from the front: the place behind each part is where the next begins.
+// The bounds on places are for 1,500 rules: by the widths of its counts a rule that is accepted has at most 913 bits.
+ghost use mathlib.Core.Path.{_≡_};
+ghost use mathlib.Core.Bool.{_&&_};
+ghost use Prim.Native.Nat.{_+_, _*_, _≤_, _<_};
+ghost use lib.Dec.{ltb};
+ghost use Rattle.plate.specs.Bits.{numberAt};
+ghost use Rattle.plate.specs.Plate.{nonzeroScalar, goodFolding, edition1};
+ghost use Rattle.plate.specs.Read.{foldingAt, closed, acceptedIn};
+ghost use Rattle.plate.specs.Answers.{bytesAt, lastDigits, upTo, alternativeStep, fieldStep, fieldsStep, firstOf, inOrder, ruleSeen, seenTo, rulesStep, foldingsGood, edition};
+use super::First;
+use super::Front;
+use super::Seen;
+use super::Step;
+use super::bits::bits;
+use super::bits::count;
+use super::pattern;
+use chars::utf8;
+
+// The last n digits of a number, four bits each, are 0 to 9.
+fn accept_digits(number: u32, n: usize) -> bool
+    ensures { λ r. ⌜ r ≡ lastDigits n number ⌝ }
+{
+    let mut rest = number;
+    let mut left = n;
+    while 0 < left {
+        if 9 < rest % 16 {
+            return false;
+        }
+        rest /= 16;
+        left -= 1;
+    }
+    true
+}
+
+// An alternative, all its digits in one read.
+fn accept_alternative(plate: &[u8], at: usize) -> Step
+    requires { ⌜ at ≤ 4000000 ⌝ }
+    ensures { λ r. ⌜ (r ≡ alternativeStep (now (plate .entry)) at) × upTo r (at + 27) ⌝ }
+{
+    let n = count(plate, at, 3);
+    if 6 < n {
+        return Step::Nowhere;
+    }
+    if accept_digits(bits(plate, at + 3, 4 * n), n) {
+        return Step::To(at + 3 + 4 * n);
+    }
+    Step::Nowhere
+}
+
+// A field: its count, then its alternatives.
+fn accept_field(plate: &[u8], at: usize) -> Step
+    requires { ⌜ at ≤ 3000000 ⌝ }
+    ensures { λ r. ⌜ (r ≡ fieldStep (now (plate .entry)) at) × upTo r (at + 220) ⌝ }
+{
+    let n = count(plate, at, 4);
+    if n < 1 {
+        return Step::Nowhere;
+    }
+    if 8 < n {
+        return Step::Nowhere;
+    }
+    let mut place = at + 4;
+    let mut left = n;
+    while 0 < left {
+        let Step::To(next) = accept_alternative(plate, place) else {
+            return Step::Nowhere;
+        };
+        place = next;
+        left -= 1;
+    }
+    Step::To(place)
+}
+
+// The three fields of a rule.
+fn accept_fields(plate: &[u8], at: usize) -> Step
+    requires { ⌜ at ≤ 2000000 ⌝ }
+    ensures { λ r. ⌜ (r ≡ fieldsStep (now (plate .entry)) at) × upTo r (at + 660) ⌝ }
+{
+    let Step::To(vowel) = accept_field(plate, at) else {
+        return Step::Nowhere;
+    };
+    let Step::To(other) = accept_field(plate, vowel) else {
+        return Step::Nowhere;
+    };
+    let Step::To(end) = accept_field(plate, other) else {
+        return Step::Nowhere;
+    };
+    Step::To(end)
+}
+
+// The n bytes of a pattern, the first character first.
+fn accept_pattern(plate: &[u8], at: usize, n: usize) -> First
+    requires { ⌜ at ≤ 2000000 ⌝ }
+    ensures { λ r. ⌜ r ≡ firstOf (bytesAt (now (plate .entry)) n at) ⌝ }
+{
+    if n < 1 {
+        return First::None;
+    }
+    if 16 < n {
+        return First::None;
+    }
+    let Front::Is(code, width) = pattern::front(plate, at, n) else {
+        return First::None;
+    };
+    if pattern::is_text(plate, at + 8 * width, n - width) {
+        return First::Code(code);
+    }
+    First::None
+}
+
+// A rule of first code point c2 and n2 bytes may stand behind one of c and n.
+fn in_order(c: u32, n: usize, c2: u32, n2: usize) -> bool
+    ensures { λ r. ⌜ r ≡ inOrder c n c2 n2 ⌝ }
+{
+    if c < c2 {
+        return true;
+    }
+    if c == c2 {
+        return n2 <= n;
+    }
+    false
+}
+
+// The rule at a place, behind one of first code point c and n bytes.
+fn accept_rule(plate: &[u8], at: usize, c: u32, n: usize) -> Seen
+    requires { ⌜ at ≤ 1500000 ⌝ }
+    ensures { λ r. ⌜ (r ≡ ruleSeen (now (plate .entry)) at c n) × seenTo r (at + 913) ⌝ }
+{
+    let length = count(plate, at, 5);
+    let First::Code(code) = accept_pattern(plate, at + 5, length) else {
+        return Seen::Wrong;
+    };
+    if in_order(c, n, code, length) {
+        let Step::To(next) = accept_fields(plate, at + 5 + 8 * length) else {
+            return Seen::Wrong;
+        };
+        return Seen::Good(code, length, next);
+    }
+    Seen::Wrong
+}
+
+// The n rules from a place on.
+fn accept_rules(plate: &[u8], from: usize, n: usize) -> Step
+    requires { ⌜ (from ≤ 20000) × (n ≤ 1500) ⌝ }
+    ensures { λ r. ⌜ (r ≡ rulesStep (now (plate .entry)) from n 0 0) × upTo r (from + 913 * n) ⌝ }
+{
+    let mut at = from;
+    let mut left = n;
+    let mut code: u32 = 0;
+    let mut length: usize = 0;
+    while 0 < left {
+        let Seen::Good(c, k, next) = accept_rule(plate, at, code, length) else {
+            return Step::Nowhere;
+        };
+        at = next;
+        left -= 1;
+        code = c;
+        length = k;
+    }
+    Step::To(at)
+}
+
+// A Unicode scalar value, and not U+0000.
+fn nonzero_scalar(c: u32) -> bool
+    ensures { λ r. ⌜ r ≡ nonzeroScalar c ⌝ }
+{
+    if 0 < c {
+        return utf8::is_scalar(c);
+    }
+    false
+}
+
+// The folding at a place, behind one of a key.
+fn accept_folding(plate: &[u8], at: usize, key: u32) -> bool
+    requires { ⌜ at ≤ 20000 ⌝ }
+    ensures { λ r. ⌜ r ≡ goodFolding (foldingAt (now (plate .entry)) at) && ltb key (numberAt (now (plate .entry)) at 21) ⌝ }
+{
+    let k = bits(plate, at, 21);
+    if nonzero_scalar(k) {
+        if nonzero_scalar(bits(plate, at + 21, 21)) {
+            return key < k;
+        }
+    }
+    false
+}
+
+// The n foldings.
+fn accept_foldings(plate: &[u8], n: usize) -> bool
+    requires { ⌜ n ≤ 128 ⌝ }
+    ensures { λ r. ⌜ r ≡ foldingsGood (now (plate .entry)) 32 n 0 ⌝ }
+{
+    let mut at: usize = 32;
+    let mut left = n;
+    let mut key: u32 = 0;
+    while 0 < left {
+        if accept_folding(plate, at, key) {
+            key = bits(plate, at, 21);
+            at += 42;
+            left -= 1;
+            continue;
+        }
+        return false;
+    }
+    true
+}
+
+// The bits end in the last byte, and zeros fill it.
+fn is_closed(plate: &[u8], end: usize) -> bool
+    requires { ⌜ end ≤ 2000000 ⌝ }
+    ensures { λ r. ⌜ r ≡ closed (now (plate .entry)) end ⌝ }
+{
+    if (end + 7) / 8 == plate.len() {
+        return bits(plate, end, 7 - (end + 7) % 8) == 0;
+    }
+    false
+}
+
+// The bytes are a plate of an edition: its number, the width of its rule count, and the most rules.
+fn accept_in(plate: &[u8], number: u32, width: usize, most: usize) -> bool
+    requires { ⌜ (width ≤ 15) × (most ≤ 1500) ⌝ }
+    ensures { λ r. ⌜ r ≡ acceptedIn (edition number width most) (now (plate .entry)) ⌝ }
+{
+    if bits(plate, 0, 8) != number {
+        return false;
+    }
+    if bits(plate, 17 + width, 15 - width) != 0 {
+        return false;
+    }
+    let n = count(plate, 8, width);
+    if most < n {
+        return false;
+    }
+    let m = count(plate, 8 + width, 8);
+    if 128 < m {
+        return false;
+    }
+    if accept_foldings(plate, m) {
+        let Step::To(end) = accept_rules(plate, 32 + 42 * m, n) else {
+            return false;
+        };
+        return is_closed(plate, end);
+    }
+    false
+}
+
+// The bytes are a plate.
+pub fn accept(plate: &[u8]) -> bool
+    ensures { λ r. ⌜ r ≡ acceptedIn edition1 (now (plate .entry)) ⌝ }
+{
+    accept_in(plate, 1, 10, 512)
+}

@@ -1,0 +1,177 @@
+// What an accepted plate says, part by part: the flag, the foldings, a rule at its place, its pattern's characters, its fields.
+ghost use mathlib.Core.Path.{_≡_};
+ghost use mathlib.Core.Bool.{true};
+ghost use mathlib.Core.Logic.{_⊎_};
+ghost use Prim.Native.Nat.{_+_, _≤_, _<_};
+ghost use lib.ListN.{length, take};
+ghost use Rattle.rule_text.specs.Fields.{isAlternative};
+ghost use Rattle.plate.specs.Plate.{edition1};
+ghost use Rattle.plate.specs.Read.{alternativeAt, fieldEnd, patternAt, ruleAt, ruleEnd, foldBy, ruleCount, rulesPlace, plateAt, acceptedIn};
+ghost use Rattle.plate.specs.Stands.{Here, Stands, Mark, LetterIs, fieldOf, fieldPlace, held, heldField};
+use super::Alternative;
+use super::Field;
+use super::Front;
+use super::Letter;
+use super::bits::bits;
+use super::bits::count;
+use super::pattern;
+
+// The folding flag. (8 bits edition, 10 bits rule count and 8 bits folding count stand before it.)
+pub fn flag(plate: &[u8]) -> bool
+    ensures { λ r. ⌜ r ≡ plateAt (edition1 .width) (now (plate .entry)) .flag ⌝ }
+{
+    bits(plate, 26, 1) == 1
+}
+
+// What a character is folded to. Keys rise, so the first above it ends the search.
+pub fn fold(plate: &[u8], c: u32) -> u32
+    requires { ⌜ acceptedIn edition1 (now plate) ≡ true ⌝ }
+    ensures { λ r. ⌜ r ≡ foldBy (plateAt (edition1 .width) (now (plate .entry)) .foldings) c ⌝ }
+{
+    let mut at: usize = 32;
+    let mut left = count(plate, 18, 8);
+    while 0 < left {
+        let key = bits(plate, at, 21);
+        if c < key {
+            return c;
+        }
+        if key == c {
+            return bits(plate, at + 21, 21);
+        }
+        at += 42;
+        left -= 1;
+    }
+    c
+}
+
+// How many rules there are; they stand one behind the other from the first place on.
+pub fn rule_count(plate: &[u8]) -> usize
+    requires { ⌜ acceptedIn edition1 (now plate) ≡ true ⌝ }
+    ensures { λ r. ⌜ (r ≡ ruleCount (edition1 .width) (now (plate .entry))) × Stands (now (plate .entry)) r (rulesPlace (edition1 .width) (now (plate .entry))) ⌝ }
+{
+    count(plate, 8, 10)
+}
+
+// The place of the first rule.
+pub fn first_place(plate: &[u8]) -> usize
+    ensures { λ r. ⌜ r ≡ rulesPlace (edition1 .width) (now (plate .entry)) ⌝ }
+{
+    32 + 42 * count(plate, 18, 8)
+}
+
+// The place behind the field at a place.
+fn field_end(plate: &[u8], at: usize) -> usize
+    requires { ⌜ at ≤ 4000000 ⌝ }
+    ensures { λ r. ⌜ (r ≡ fieldEnd (now (plate .entry)) at) × (r ≤ at + 469) ⌝ }
+{
+    let mut place = at + 4;
+    let mut left = count(plate, at, 4);
+    while 0 < left {
+        place = place + 3 + 4 * count(plate, place, 3);
+        left -= 1;
+    }
+    place
+}
+
+// The place of field 0, 1 or 2 of the rule at a place.
+fn field_place(plate: &[u8], at: usize, which: usize) -> usize
+    requires { ⌜ (at ≤ 3000000) × (which ≤ 2) ⌝ }
+    ensures { λ r. ⌜ (r ≡ fieldPlace (now (plate .entry)) at which) × (r ≤ at + 1191) ⌝ }
+{
+    let start = at + 5 + 8 * count(plate, at, 5);
+    if which == 0 {
+        return start;
+    }
+    let vowel = field_end(plate, start);
+    if which == 1 {
+        return vowel;
+    }
+    field_end(plate, vowel)
+}
+
+// The place of the rule behind the one at a place.
+pub fn next_place(plate: &[u8], at: usize) -> usize
+    requires { ⌜ Here (now plate) at ⌝ }
+    ensures { λ r. ⌜ r ≡ ruleEnd (now (plate .entry)) at ⌝ }
+{
+    field_end(plate, field_place(plate, at, 2))
+}
+
+// The pattern's length in bytes.
+pub fn pattern_length(plate: &[u8], at: usize) -> usize
+    requires { ⌜ Here (now plate) at ⌝ }
+    ensures { λ r. ⌜ (r ≡ length (patternAt (now (plate .entry)) at)) × (0 < r) × (r ≤ 16) ⌝ }
+{
+    count(plate, at, 5)
+}
+
+// The character of the pattern that begins at its byte k; ASCII by one read.
+pub fn pattern_char(plate: &[u8], at: usize, k: usize) -> Letter
+    requires { ⌜ Here (now plate) at × Mark (now plate) at k × (k < length (patternAt (now plate) at)) ⌝ }
+    ensures { λ r. ⌜ LetterIs (now (plate .entry)) at k r ⌝ }
+{
+    let place = at + 5 + 8 * k;
+    let first = bits(plate, place, 8);
+    if first <= 0x7F {
+        return Letter {
+            code: first,
+            width: 1,
+        };
+    }
+    let left = count(plate, at, 5) - k;
+    let Front::Is(code, width) = pattern::wide_front(plate, place, left) else {
+        return Letter { code: 0, width: 1 };
+    };
+    Letter { code, width }
+}
+
+// An alternative, all its digits in one read.
+fn alternative_at(plate: &[u8], at: usize) -> Alternative
+    requires { ⌜ (at ≤ 4000000) × (isAlternative (alternativeAt (now plate) at) ≡ true) ⌝ }
+    ensures { λ r. ⌜ r ≡ held (alternativeAt (now (plate .entry)) at) ⌝ }
+{
+    let n = count(plate, at, 3);
+    let number = bits(plate, at + 3, 4 * n);
+    let mut digits = [b'0'; 6];
+    let mut k: usize = 0;
+    while k < n {
+        digits[k] = (48 + (number >> (4 * n - 4 * k - 4)) % 16) as u8;
+        k += 1;
+    }
+    Alternative {
+        digits,
+        count: n as u8,
+    }
+}
+
+// The smaller of two.
+fn least(a: usize, b: usize) -> usize
+    ensures { λ r. ⌜ (r ≤ a) × (r ≤ b) × ((r ≡ a) ⊎ (r ≡ b)) ⌝ }
+{
+    if a <= b { a } else { b }
+}
+
+// The first `most` alternatives of field 0, 1 or 2 (start, before vowel, default) of the rule at a place.
+pub fn field_at(plate: &[u8], at: usize, which: usize, most: usize) -> Field
+    requires { ⌜ Here (now plate) at × (which ≤ 2) ⌝ }
+    ensures { λ r. ⌜ r ≡ heldField (take most (fieldOf (ruleAt (now (plate .entry)) at) which)) ⌝ }
+{
+    let from = field_place(plate, at, which);
+    let n = least(count(plate, from, 4), most);
+    let blank = Alternative {
+        digits: [b'0'; 6],
+        count: 0,
+    };
+    let mut alternatives = [blank; 8];
+    let mut place = from + 4;
+    let mut k: usize = 0;
+    while k < n {
+        alternatives[k] = alternative_at(plate, place);
+        place = place + 3 + 4 * count(plate, place, 3);
+        k += 1;
+    }
+    Field {
+        alternatives,
+        count: n,
+    }
+}
