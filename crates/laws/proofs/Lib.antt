@@ -5,3 +5,4 @@ pub mod Table
 pub mod Bits
 pub mod Cuts
 pub mod Many
+pub mod Parts

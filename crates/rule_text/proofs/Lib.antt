@@ -1,1 +1,11 @@
+pub mod Counts
+pub mod Ends
+pub mod Quotes
+pub mod Folds
+pub mod Blocks
+pub mod Entries
+pub mod Splits
+pub mod Bounds
+pub mod Walk
+pub mod Only
 pub mod Clean

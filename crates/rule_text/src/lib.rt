@@ -1,5 +1,12 @@
 // Rule text: the forms of an item on the rest of the text, and the alternatives of a field.
 // Places are counted from the first byte of the rest.
+mod scan; // scan.rt: the bytes in front of some bytes
+pub mod lines; // lines.rt: form 3, the line end
+pub mod rule; // rule.rt: form 1, the rule
+pub mod folding; // folding.rt: form 2, the folding
+pub mod comment; // comment.rt: form 4, the block comment
+pub mod item; // item.rt: the first form that fits
+pub mod field; // field.rt: the alternatives of a field
 
 // The place behind a form, or that it does not fit.
 pub enum Reach {
@@ -77,4 +84,11 @@ pub enum Entry {
         next: usize,
     },
     Unknown,
+}
+
+// A field: how many alternatives it has, or its first fault.
+pub enum Alternatives {
+    Many(usize),
+    TooMany,
+    NotDigits,
 }

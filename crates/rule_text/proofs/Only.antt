@@ -1,0 +1,36 @@
+-- Only one answer satisfies each promise of this crate, for each says its answer by an equation. Assumes nothing.
+use mathlib.Core.Path.{_≡_}
+use mathlib.Core.List.{List}
+use Prim.Native.Nat.{ℕ}
+use lib.ListN.{length}
+use Rattle.laws.proofs.Only.{only}
+use Rattle.rule_text.specs.Forms.{endOfLine, quadruplet, folding, multilineComment, entry}
+use Rattle.rule_text.specs.Answers.{EndsLine, HoldsFour, Pairs, Blocks, Lies, parsed, Says, barBehind, Ends}
+use Rattle.rule_text.specs.declared.Reach.{Reach}
+use Rattle.rule_text.specs.declared.Parts.{Parts}
+use Rattle.rule_text.specs.declared.Pair.{Pair}
+use Rattle.rule_text.specs.declared.Block.{Block}
+use Rattle.rule_text.specs.declared.Entry.{Entry}
+use Rattle.rule_text.specs.declared.Alternatives.{Alternatives}
+
+module _ (l : List ℕ) where
+  pub only-end-of-line : (r r′ : Reach) → (r ≡ endOfLine l) × EndsLine (length l) r → (r′ ≡ endOfLine l) × EndsLine (length l) r′ → r ≡ r′
+  only-end-of-line r r′ e f = only (e .0) (f .0)
+
+  pub only-quadruplet : (r r′ : Parts) → (r ≡ quadruplet l) × HoldsFour (length l) r → (r′ ≡ quadruplet l) × HoldsFour (length l) r′ → r ≡ r′
+  only-quadruplet r r′ e f = only (e .0) (f .0)
+
+  pub only-folding : (r r′ : Pair) → (r ≡ folding l) × Pairs (length l) r → (r′ ≡ folding l) × Pairs (length l) r′ → r ≡ r′
+  only-folding r r′ e f = only (e .0) (f .0)
+
+  pub only-multiline-comment : (r r′ : Block) → (r ≡ multilineComment l) × Blocks (length l) r → (r′ ≡ multilineComment l) × Blocks (length l) r′ → r ≡ r′
+  only-multiline-comment r r′ e f = only (e .0) (f .0)
+
+  pub only-item : (r r′ : Entry) → (r ≡ entry l) × Lies (length l) r → (r′ ≡ entry l) × Lies (length l) r′ → r ≡ r′
+  only-item r r′ e f = only (e .0) (f .0)
+
+  pub only-parse-branch : (r r′ : Alternatives) → (r ≡ parsed l) × Says l r → (r′ ≡ parsed l) × Says l r′ → r ≡ r′
+  only-parse-branch r r′ e f = only (e .0) (f .0)
+
+  pub only-alternative-end : (at r r′ : ℕ) → (r ≡ barBehind l at) × Ends at (length l) r → (r′ ≡ barBehind l at) × Ends at (length l) r′ → r ≡ r′
+  only-alternative-end at r r′ e f = only (e .0) (f .0)
