@@ -1,2 +1,5 @@
 pub mod Branches
+pub mod Held
+pub mod Choice
+pub mod Room
 pub mod Worked

@@ -16,6 +16,7 @@ use Rattle.plate.specs.Plate.{Folding, Rule, Plate, firstCode, mayPrecede}
 use Rattle.plate.specs.Build.{Book, putRule, putFolding, ruleOf, foldingOf, enter, fault, Verdict, unless, verdict}
 use Rattle.plate.specs.Build.Verdict.{Faulty, Fine}
 use Rattle.branches.specs.Branches.{Use}
+use Rattle.branches.specs.Choice.{Wider}
 use Rattle.coder.specs.Walk.{letters, startsWith, group, longer, longest, match, field, forced, vowelFollows, Passed, matched, passed, walk, uses}
 use Rattle.coder.specs.Wider.{Further, WiderItem, WiderItems, WiderRule, WiderRules}
 
@@ -80,13 +81,6 @@ books-wider line line′ b c (i ∷ is) (j ∷ js) h w d e x y =
 
 -- ---- from rules to uses
 
--- the second has each use of the first, with further alternatives perhaps
-abbrev pub WiderUses : List Use → List Use → Type 0
-WiderUses [] [] = Unit {0}
-WiderUses [] (v ∷ vs) = ⊥
-WiderUses (u ∷ us) [] = ⊥
-WiderUses (u ∷ us) (v ∷ vs) = Further (u .alternatives) (v .alternatives) × (v .anyway ≡ u .anyway) × WiderUses us vs
-
 keep-wider : (t : List ℕ → Bool) (rs qs : List Rule) → WiderRules rs qs → WiderRules (keep (λ r. t (letters r)) rs) (keep (λ r. t (letters r)) qs)
 keep-wider t [] [] w = tt
 keep-wider t [] (q ∷ qs) w = absurd w
@@ -140,7 +134,7 @@ field-wider (some b) behind r q w = go (vowelFollows behind)
     go false = w .3
 
 abbrev WiderPassed : Passed → Passed → Type 0
-WiderPassed p q = WiderUses (p .uses) (q .uses) × (q .before ≡ p .before) × (q .skip ≡ p .skip)
+WiderPassed p q = Wider (p .uses) (q .uses) × (q .before ≡ p .before) × (q .skip ≡ p .skip)
 
 matched-wider : (before : Option ℕ) (c : ℕ) (cs : List ℕ) (o p : Option Rule) → WiderOption o p → WiderPassed (matched before c cs o) (matched before c cs p)
 matched-wider before c cs none none w = (tt, refl, refl)
@@ -165,13 +159,13 @@ passed-wider before c cs (r ∷ rs) (q ∷ qs) w =
     matched-wider before c cs (match (r ∷ rs) (c ∷ cs)) (match (q ∷ qs) (c ∷ cs))
     (longest-wider (keep (λ x. begins (letters x) (c ∷ cs)) (r ∷ rs)) (keep (λ x. begins (letters x) (c ∷ cs)) (q ∷ qs)) (keep-wider (λ p. begins p (c ∷ cs)) (r ∷ rs) (q ∷ qs) w))
 
-append-wider : (us vs xs ys : List Use) → WiderUses us vs → WiderUses xs ys → WiderUses (us ++ xs) (vs ++ ys)
+append-wider : (us vs xs ys : List Use) → Wider us vs → Wider xs ys → Wider (us ++ xs) (vs ++ ys)
 append-wider [] [] xs ys w z = z
 append-wider [] (v ∷ vs) xs ys w z = absurd w
 append-wider (u ∷ us) [] xs ys w z = absurd w
 append-wider (u ∷ us) (v ∷ vs) xs ys w z = (w .0, w .1, append-wider us vs xs ys (w .2) z)
 
-walk-wider : (rs qs : List Rule) → WiderRules rs qs → (before : Option ℕ) (k : ℕ) (cs : List ℕ) → WiderUses (walk rs before k cs) (walk qs before k cs)
+walk-wider : (rs qs : List Rule) → WiderRules rs qs → (before : Option ℕ) (k : ℕ) (cs : List ℕ) → Wider (walk rs before k cs) (walk qs before k cs)
 unfolding walk
 walk-wider rs qs w before k [] = tt
 walk-wider rs qs w before (suc k) (c ∷ cs) = walk-wider rs qs w before k cs
@@ -179,13 +173,13 @@ walk-wider rs qs w before zero (c ∷ cs) =
     go (passed before c cs (group rs c)) (passed before c cs (group qs c)) (passed-wider before c cs (group rs c) (group qs c) (keep-wider (startsWith c) rs qs w))
     (λ b k. walk-wider rs qs w b k cs)
   where
-    go : (p q : Passed) → WiderPassed p q → ((b : Option ℕ) (k : ℕ) → WiderUses (walk rs b k cs) (walk qs b k cs))
-        → WiderUses (p .uses ++ walk rs (p .before) (p .skip) cs) (q .uses ++ walk qs (q .before) (q .skip) cs)
+    go : (p q : Passed) → WiderPassed p q → ((b : Option ℕ) (k : ℕ) → Wider (walk rs b k cs) (walk qs b k cs))
+        → Wider (p .uses ++ walk rs (p .before) (p .skip) cs) (q .uses ++ walk qs (q .before) (q .skip) cs)
     go p q h below =
         append-wider (p .uses) (q .uses) (walk rs (p .before) (p .skip) cs) (walk qs (q .before) (q .skip) cs) (h .0)
-        (subst (λ (b : Option ℕ). WiderUses (walk rs (p .before) (p .skip) cs) (walk qs b (q .skip) cs)) (sym (h .1))
-        (subst (λ (k : ℕ). WiderUses (walk rs (p .before) (p .skip) cs) (walk qs (p .before) k cs)) (sym (h .2)) (below (p .before) (p .skip))))
+        (subst (λ (b : Option ℕ). Wider (walk rs (p .before) (p .skip) cs) (walk qs b (q .skip) cs)) (sym (h .1))
+        (subst (λ (k : ℕ). Wider (walk rs (p .before) (p .skip) cs) (walk qs (p .before) k cs)) (sym (h .2)) (below (p .before) (p .skip))))
 
 -- Wider rules are used at the same places of every name, with further alternatives perhaps.
-pub uses-wider : (rs qs : List Rule) → WiderRules rs qs → (cs : List ℕ) → WiderUses (uses rs cs) (uses qs cs)
+pub uses-wider : (rs qs : List Rule) → WiderRules rs qs → (cs : List ℕ) → Wider (uses rs cs) (uses qs cs)
 uses-wider rs qs w cs = walk-wider rs qs w none 0 cs

@@ -5,12 +5,13 @@ use mathlib.Core.Bool.{Bool, true, false, cond}
 use mathlib.Core.Option.{Option, none, some}
 use mathlib.Core.List.{List, [], _∷_, _++_, map}
 use lib.Dec.{ltb, leb}
-use lib.ListN.{length, take, drop}
+use lib.ListN.{length, drop}
 use Rattle.laws.specs.Lists.{every}
 use Rattle.chars.specs.Utf8.{isText, charsOf}
 use Rattle.plate.specs.Plate.{Plate}
 use Rattle.plate.specs.Read.{readPlate}
 use Rattle.branches.specs.Branches.{Use, start, over, codes}
+use Rattle.branches.specs.Choice.{firstOnly}
 use Rattle.coder.specs.Name.{allowed, prepared}
 use Rattle.coder.specs.Walk.{uses}
 
@@ -42,11 +43,7 @@ room lent = smaller 64 ((length lent + 1) / 7)
 abbrev pub listed : List Use → List ℕ → Coded
 listed us lent = cond (over (room lent) us start) (refusal 12 lent) (listing (codes us) lent)
 
--- "Encode takes the first alternative only."
-abbrev pub firstOnly : Use → Use
-firstOnly u = record { alternatives = take 1 (u .alternatives); anyway = u .anyway }
-
--- "For encode: the buffer is under 6 bytes."
+-- "Encode takes the first alternative only." 12: "For encode: the buffer is under 6 bytes."
 abbrev pub encoded : List Use → List ℕ → Coded
 encoded us lent = cond (ltb (length lent) 6) (refusal 12 lent) (listing (codes (map firstOnly us)) lent)
 

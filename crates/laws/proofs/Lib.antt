@@ -6,3 +6,6 @@ pub mod Bits
 pub mod Cuts
 pub mod Many
 pub mod Parts
+pub mod Arrays
+pub mod Same
+pub mod Members

@@ -6,3 +6,4 @@ pub mod Build
 pub mod Worked
 pub mod Answers
 pub mod Stands
+pub mod Field

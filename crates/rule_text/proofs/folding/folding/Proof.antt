@@ -1,5 +1,4 @@
 -- `folding::folding` meets its contract. Each character found is the definition's (`key`, `target`), and each way out is a law of Folds. Assumes nothing.
-use Rattle.rule_text.specs.declared.Letter.{Letter}
 use mathlib.Core.Path.{_≡_, sym, _∙_}
 use mathlib.Core.List.{List}
 use Prim.Native.Nat.{ℕ, _+_}
@@ -8,6 +7,7 @@ use lib.ListN.{length, getD}
 use Rattle.laws.proofs.Parts.{known, within}
 use Rattle.rule_text.specs.Forms.{equals, letterAt}
 use Rattle.rule_text.specs.Answers.{From, Reads}
+use Rattle.rule_text.specs.declared.Letter.{Letter}
 use Rattle.rule_text.specs.declared.Letter.the-variants.{Is}
 use Rattle.rule_text.proofs.Folds.{none-1, none-2, none-3, none-4, folds, folds-pairs}
 use borrow.Author.Needs.{needs}

@@ -1,0 +1,7 @@
+pub mod Digits
+pub mod Holding
+pub mod Steps
+pub mod Merging
+pub mod Choice
+pub mod Room
+pub mod Only
