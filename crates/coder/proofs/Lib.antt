@@ -1,3 +1,14 @@
 pub mod Longest
 pub mod Hits
+pub mod Plates
+pub mod Patterns
+pub mod Chars
+pub mod Alternatives
+pub mod Fields
+pub mod Steps
+pub mod Firsts
+pub mod Joined
 pub mod Wider
+pub mod Answers
+pub mod Only
+pub mod Demands

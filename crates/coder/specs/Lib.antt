@@ -1,8 +1,11 @@
 pub mod Name
 pub mod Walk
 pub mod Search
+pub mod Held
 pub mod Wider
 pub mod Answer
+pub mod Numbers
 pub mod Case
 pub mod Starred
 pub mod Pinned
+pub mod Given

@@ -1,0 +1,221 @@
+-- Demand 3 about whole calls: list's answer rests on the plate and the name alone as long as there is room, and its codes are those of the uses, for which
+-- the laws on branches stand. Assumes nothing.
+use Prim.Native.Nat.{ℕ, zero, suc, _+_, _/_, _<_, _≤_}
+use mathlib.Core.Path.{_≡_, refl, sym, ap, ap₂, subst, _∙_}
+use mathlib.Core.Bool.{Bool, true, false, cond, _&&_, false≢true}
+use mathlib.Core.Option.{Option, none, some}
+use mathlib.Core.List.{List, [], _∷_, _++_, map}
+use native.Mathlib.Omega.{arith}
+use borrow.Author.Tests.{leb-true, leb-false, le-leb, lt-leb, le-ltb}
+use lib.Dec.{ltb, leb}
+use lib.ListN.{length, take, drop}
+use Rattle.laws.specs.Lists.{In, every}
+use Rattle.laws.proofs.Tests.{and-true, by-test, between-true}
+use Rattle.chars.specs.Utf8.{isText, charsOf}
+use Rattle.rule_text.specs.Items.{items, firstLine}
+use Rattle.plate.specs.Plate.{Rule, Plate, edition1, goodRule, ordered}
+use Rattle.plate.specs.Read.{plateAt, acceptedIn, readPlate, readIn}
+use Rattle.plate.specs.Build.{Book, blank, Verdict, verdict, Built, buildAnswer}
+use Rattle.plate.specs.Build.Verdict.{Faulty, Fine}
+use Rattle.plate.proofs.Packed.{Bytes}
+use Rattle.plate.proofs.Goods.{plateOf, Accepted, build-accepted}
+use Rattle.branches.specs.Branches.{Use, start, over, codes}
+use Rattle.branches.specs.Choice.{Chosen, yielded, Filled, firsts, firstOnly, Wider, Starts}
+use Rattle.branches.proofs.Choice.{chosen-listed, listed-chosen, first-listed, firsts-alone, wider-listed, wider-first}
+use Rattle.branches.proofs.Room.{more-room}
+use Rattle.coder.specs.Name.{allowed, prepared}
+use Rattle.coder.specs.Walk.{uses}
+use Rattle.coder.specs.Answer.{Coded, refusal, listing, smaller, room, listed, encoded, named, plated, listAnswer, encodeAnswer}
+use Rattle.coder.specs.Wider.{WiderItems, WiderRules}
+use Rattle.coder.specs.Given.{Given, usesIn}
+use Rattle.coder.proofs.Plates.{rules-good, rules-ordered}
+use Rattle.coder.proofs.Firsts.{goodUse, uses-good}
+use Rattle.coder.proofs.Wider.{books-wider, uses-wider}
+
+-- ---- what an answer of 0 says
+
+-- The tests of the name passed, and the call answered.
+passed-tests : (long text fine : Bool) (x : Coded) (lent : List ℕ) → cond long (refusal 1 lent) (cond text (cond fine x (refusal 11 lent)) (refusal 2 lent)) .number ≡ 0
+    → (long ≡ false) × (text ≡ true) × (fine ≡ true)
+passed-tests true text fine x lent e = absurd (omega arith)
+passed-tests false true true x lent e = (refl, refl, refl)
+passed-tests false true false x lent e = absurd (omega arith)
+passed-tests false false fine x lent e = absurd (omega arith)
+
+-- A name that passes the tests is coded, whatever is lent.
+named-fine : (call : List Use → List ℕ → Coded) (p : Plate) (name lent : List ℕ) → ltb 256 (length name) ≡ false → isText name ≡ true → every allowed (charsOf name) ≡ true
+    → named call p name lent ≡ call (usesIn p name) lent
+named-fine call p name lent a b c = rw (a, b, c)
+
+-- An answer of 0: the bytes are a plate, and the call answered for its uses; so does any call, whatever is lent.
+answered : (call : List Use → List ℕ → Coded) (o : Option Plate) (name lent : List ℕ) → plated call o name lent .number ≡ 0
+    → (p : Plate) × (o ≡ some p) × ((call′ : List Use → List ℕ → Coded) (lent′ : List ℕ) → plated call′ o name lent′ ≡ call′ (usesIn p name) lent′)
+answered call none name lent e = absurd (omega arith)
+answered call (some p) name lent e =
+    let t = passed-tests (ltb 256 (length name)) (isText name) (every allowed (charsOf name)) (call (usesIn p name) lent) lent e in
+    (p, refl, λ call′ lent′. named-fine call′ p name lent′ (t .0) (t .1) (t .2))
+
+-- list answers 0 only where the branches fit
+fits : (us : List Use) (lent : List ℕ) → listed us lent .number ≡ 0 → over (room lent) us start ≡ false
+fits us lent e = go (over (room lent) us start) e
+  where
+    go : (b : Bool) → cond b (refusal 12 lent) (listing (codes us) lent) .number ≡ 0 → b ≡ false
+    go true e = absurd (omega arith)
+    go false e = refl
+
+listed-fits : (us : List Use) (lent : List ℕ) → over (room lent) us start ≡ false → listed us lent ≡ listing (codes us) lent
+listed-fits us lent e = ap (λ (b : Bool). cond b (refusal 12 lent) (listing (codes us) lent)) e
+
+-- A longer buffer has no less room.
+room-grows : (lent lent′ : List ℕ) → length lent ≤ length lent′ → room lent ≤ room lent′
+unfolding room
+room-grows lent lent′ h =
+    by-test (λ (m : ℕ). m ≤ smaller 64 ((length lent′ + 1) / 7)) (leb 64 ((length lent + 1) / 7)) 64 ((length lent + 1) / 7)
+    (λ e. let a = leb-true 64 ((length lent + 1) / 7) e in
+    by-test (λ (m : ℕ). 64 ≤ m) (leb 64 ((length lent′ + 1) / 7)) 64 ((length lent′ + 1) / 7) (λ f. omega arith) (λ f. let b = leb-false 64 ((length lent′ + 1) / 7) f in absurd (omega arith)))
+    (λ e. let a = leb-false 64 ((length lent + 1) / 7) e in
+    by-test (λ (m : ℕ). (length lent + 1) / 7 ≤ m) (leb 64 ((length lent′ + 1) / 7)) 64 ((length lent′ + 1) / 7) (λ f. omega arith) (λ f. omega arith))
+
+-- ---- what is given
+
+module _ (plate name : List ℕ) where
+  -- List answers 0 exactly by giving the codes of its uses.
+  pub gives : (lent : List ℕ) → listAnswer plate name lent .number ≡ 0 → (p : Plate) × (cs : List (List ℕ)) × Given plate name lent p cs
+  unfolding listAnswer
+  gives lent e =
+      let a = answered listed (readPlate plate) name lent e in
+      let us = usesIn (a .0) name in
+      let f = fits us lent (ap (λ (x : Coded). x .number) (sym (a .2 listed lent)) ∙ e) in
+      (a .0, codes us, record { read = a .1; all = refl; written = a .2 listed lent ∙ listed-fits us lent f })
+
+  module _ (lent : List ℕ) (p : Plate) (cs : List (List ℕ)) (g : Given plate name lent p cs) where
+    number-0 : listAnswer plate name lent .number ≡ 0
+    number-0 = ap (λ (x : Coded). x .number) (g .written)
+
+    abbrev us : List Use
+    us = usesIn p name
+
+    -- the same plate
+    some-inj : (x y : Plate) → some x ≡ some y → x ≡ y
+    some-inj x y e = ap (λ (o : Option Plate). held o) e
+      where
+        held : Option Plate → Plate
+        held (some q) = q
+        held none = x
+
+    -- d) A list given once is given again in any longer buffer.
+    pub longer : (lent′ : List ℕ) → length lent ≤ length lent′ → Given plate name lent′ p cs
+    unfolding listAnswer
+    longer lent′ h =
+        let a = answered listed (readPlate plate) name lent number-0 in
+        let same = some-inj (a .0) p (sym (a .1) ∙ g .read) in
+        let again : (call : List Use → List ℕ → Coded) (l : List ℕ) → plated call (readPlate plate) name l ≡ call us l =
+        λ call l. a .2 call l ∙ ap (λ (q : Plate). call (usesIn q name) l) same in
+        let f = fits us lent (ap (λ (x : Coded). x .number) (sym (again listed lent)) ∙ number-0) in
+        record {
+          read = g .read;
+          all = g .all;
+          written = again listed lent′ ∙ listed-fits us lent′ (more-room (room lent) (room lent′) us start (room-grows lent lent′ h) f) ∙ ap (λ (l : List (List ℕ)). listing l lent′) (sym (g .all));
+        }
+
+    -- a) Exactly the codes that some choice of one alternative at each use of a rule yields.
+    pub choice-listed : (choice : List (List ℕ)) → Chosen us choice → In (yielded us choice) cs
+    choice-listed choice c = subst (In (yielded us choice)) (sym (g .all)) (chosen-listed us choice c)
+
+    pub listed-choice : (k : List ℕ) → In k cs → (choice : List (List ℕ)) × Chosen us choice × (k ≡ yielded us choice)
+    listed-choice k i = listed-chosen us k (subst (In k) (g .all) i)
+
+    -- The plate is a good one, so each use has an alternative.
+    filled : Filled us
+    filled = all-filled us (uses-good (p .rules) (good .0) (good .1) (prepared p name))
+      where
+        some-alternative : (u : Use) (more : List Use) → every goodUse (u ∷ more) ≡ true → (0 < length (u .alternatives)) × (every goodUse more ≡ true)
+        some-alternative u more h = let b = and-true (goodUse u) (every goodUse more) h in (between-true 1 8 (length (u .alternatives)) (b .0) .0, b .1)
+
+        all-filled : (vs : List Use) → every goodUse vs ≡ true → Filled vs
+        all-filled [] h = tt
+        all-filled (u ∷ more) h = let b = some-alternative u more h in (b .0, all-filled more (b .1))
+
+        go : (t : Bool) → acceptedIn edition1 plate ≡ t → cond t (some (plateAt (edition1 .width) plate)) none ≡ some p → (every goodRule (p .rules) ≡ true) × (ordered (p .rules) ≡ true)
+        go true a e =
+            let q = some-inj (plateAt (edition1 .width) plate) p e in
+            (subst (λ (x : Plate). every goodRule (x .rules) ≡ true) q (rules-good plate a), subst (λ (x : Plate). ordered (x .rules) ≡ true) q (rules-ordered plate a))
+        go false a e = absurd (false≢true (ap is-some e))
+          where
+            is-some : Option Plate → Bool
+            is-some (some x) = true
+            is-some none = false
+
+        good : (every goodRule (p .rules) ≡ true) × (ordered (p .rules) ≡ true)
+        good = go (acceptedIn edition1 plate) refl (g .read)
+
+    -- b) The unbranched one first: it is what encode gives, alone, in any buffer of six bytes or more.
+    pub first-given : Starts (yielded us (firsts us)) cs
+    first-given = subst (Starts (yielded us (firsts us))) (sym (g .all)) (first-listed us filled)
+
+    pub encode-gives : (lent′ : List ℕ) → 6 ≤ length lent′ → encodeAnswer plate name lent′ ≡ listing (yielded us (firsts us) ∷ []) lent′
+    unfolding listAnswer encodeAnswer
+    encode-gives lent′ h =
+        let a = answered listed (readPlate plate) name lent number-0 in
+        let same = some-inj (a .0) p (sym (a .1) ∙ g .read) in
+        a .2 encoded lent′ ∙ ap (λ (q : Plate). encoded (usesIn q name) lent′) same
+        ∙ ap (λ (b : Bool). cond b (refusal 12 lent′) (listing (codes (map firstOnly us)) lent′)) (le-ltb (length lent′) 6 h)
+        ∙ ap (λ (l : List (List ℕ)). listing l lent′) (firsts-alone us filled)
+
+-- ---- c) Further alternatives behind a rule's keep every earlier code and the first.
+
+-- the plate that build wrote
+abbrev pub platePart : Built → List ℕ
+platePart a = take (a .length) (a .buffer)
+
+module _ (text text′ : List ℕ) (flag : Bool) (room₁ room₂ : List ℕ) (bytes : Bytes text) (bytes′ : Bytes text′) (wider : WiderItems (items text) (items text′))
+    (built : buildAnswer text flag room₁ .number ≡ 0) (built′ : buildAnswer text′ flag room₂ .number ≡ 0) where
+  abbrev plate₁ : List ℕ
+  plate₁ = platePart (buildAnswer text flag room₁)
+
+  abbrev plate₂ : List ℕ
+  plate₂ = platePart (buildAnswer text′ flag room₂)
+
+  module _ (name lent lent′ : List ℕ) (p p′ : Plate) (cs cs′ : List (List ℕ)) (g : Given plate₁ name lent p cs) (g′ : Given plate₂ name lent′ p′ cs′) where
+    -- the plates that the texts say
+    said : (b b′ : Book) × (p ≡ plateOf flag b) × (p′ ≡ plateOf flag b′) × (b′ .foldings ≡ b .foldings) × WiderRules (b .rules) (b′ .rules)
+    said =
+        let a = build-accepted text flag room₁ bytes built in
+        let a′ = build-accepted text′ flag room₂ bytes′ built′ in
+        let w = books-wider firstLine firstLine blank blank (items text) (items text′) wider (refl, tt) (a .0) (a′ .0) (a .1) (a′ .1) in (
+          a .0,
+          a′ .0,
+          some-inj plate₁ name lent p cs g p (plateOf flag (a .0)) (sym (g .read) ∙ a .3),
+          some-inj plate₂ name lent′ p′ cs′ g′ p′ (plateOf flag (a′ .0)) (sym (g′ .read) ∙ a′ .3),
+          w .0,
+          w .1,
+        )
+
+    wider-uses : Wider (usesIn p name) (usesIn p′ name)
+    wider-uses =
+        let s = said in
+        let b = s .0 in
+        let b′ = s .1 in
+        let same : prepared (plateOf flag b′) name ≡ prepared (plateOf flag b) name = λ i. prepared (record { flag = flag; foldings = s .4 i; rules = [] }) name in
+        subst (λ (q : Plate). Wider (usesIn q name) (usesIn p′ name)) (sym (s .2))
+        (subst (λ (q : Plate). Wider (usesIn (plateOf flag b) name) (usesIn q name)) (sym (s .3))
+        (subst (λ (x : List ℕ). Wider (usesIn (plateOf flag b) name) (uses (b′ .rules) x)) (sym same) (uses-wider (b .rules) (b′ .rules) (s .5) (prepared (plateOf flag b) name))))
+
+    -- Every earlier code is given still.
+    pub code-kept : (k : List ℕ) → In k cs → In k cs′
+    code-kept k i = subst (In k) (sym (g′ .all)) (wider-listed (usesIn p name) (usesIn p′ name) wider-uses k (subst (In k) (g .all) i))
+
+    -- The first is the same.
+    pub first-kept : (k : List ℕ) → Starts k cs → Starts k cs′
+    first-kept k s =
+        let us = usesIn p name in
+        let f = filled plate₁ name lent p cs g in
+        let same = head-same (first-listed us f) (subst (Starts k) (g .all) s) in
+        subst (λ (x : List ℕ). Starts x cs′) same (subst (Starts (yielded us (firsts us))) (sym (g′ .all)) (wider-first us (usesIn p′ name) wider-uses f))
+      where
+        head-same : {x y : List ℕ} {l : List (List ℕ)} → Starts x l → Starts y l → x ≡ y
+        head-same {x} {y} a b = ap (λ (l : List (List ℕ)). headOr x l) (sym (a .1) ∙ b .1)
+          where
+            headOr : List ℕ → List (List ℕ) → List ℕ
+            headOr d [] = d
+            headOr d (z ∷ zs) = z

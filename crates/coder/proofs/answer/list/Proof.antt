@@ -1,0 +1,22 @@
+-- `answer::list` meets its contract: no field has more than 8 alternatives, so 8 of each are all. Assumes nothing.
+use mathlib.Core.Path.{subst}
+use borrow.Author.Needs.{needs}
+use Rattle.coder.specs.Answer.{Coded}
+use Rattle.coder.specs.Numbers.{Tells}
+use Rattle.coder.proofs.Answers.{list-is}
+use Rattle.coder.proofs.answer.list.Statement.{statement}
+use Rattle.coder.proofs.answer.list.Tie as tie
+
+code-name-requires : tie.Need-code-name-requires
+code-name-requires c κs = search needs
+
+same-length : tie.Need-same-length
+same-length c = search needs
+
+returns : tie.Need-returns
+returns c =
+    let a = c .before .before .before .before .before .before .before .args in
+    subst (λ (w : Coded). Tells w (c .before .before .code-name .result) (c .before .before .code-name .last .1 .1 .0)) (list-is (a .plate .now) (a .name .now) (a .out .now)) (c .before .before .code-name .ensures)
+
+pub list-spec : {M : Type 1} → statement M
+list-spec = tie.close (tie.spec code-name-requires same-length returns)

@@ -1,0 +1,161 @@
+-- `name::prepare` meets its contract. The loop keeps Chars.Made: what is wanted of the bytes left is what is wanted of the name. A turn is Chars.space,
+-- Chars.strange or Chars.kept, the ways out Chars.bad, Chars.end-strange and Chars.end. Each turn passes a byte at least, and a character takes no more
+-- entries than bytes. Assumes nothing.
+use Prim.Native.Nat.{_+_, _-_, _≤_, _<_}
+use mathlib.Core.List.{[]}
+use mathlib.Core.Path.{_≡_, sym, ap, _∙_}
+use native.Mathlib.Omega.{arith}
+use borrow.Author.Needs.{needs}
+use lib.ListN.{length}
+use Rattle.plate.specs.Plate.{edition1}
+use Rattle.plate.specs.Read.{plateAt}
+use Rattle.coder.specs.declared.Fault.{Fault}
+use Rattle.coder.specs.Held.{heldChars}
+use Rattle.coder.specs.declared.Prepared.{Prepared}
+use Rattle.coder.proofs.Chars.{Made, too-long, start, bad, space, strange, kept, end-strange, end}
+use Rattle.coder.proofs.name.prepare.Statement.{statement}
+use Rattle.coder.proofs.name.prepare.Tie as tie
+
+abbrev Inv-loop : tie.InvT-loop
+Inv-loop plate name t chars₀ count₀ foreign₀ at₀ chars count foreign at =
+    (count ≤ at) × (at ≤ length name) × Made (plateAt (edition1 .width) plate) name chars count foreign at
+
+abbrev μ-loop : tie.MeasureT-loop
+μ-loop plate name t chars₀ count₀ foreign₀ at₀ chars count foreign at = length name - at
+
+-- A character lies within the name.
+wide : (c : tie.After-known-told Inv-loop μ-loop) → (1 ≤ c .before .c .given .0 .1 .0) × (c .before .before .before .before .loop .at + c .before .c .given .0 .1 .0 ≤ length (c .before .before .before .before .before .before .before .before .args .name .now))
+wide c = let r = rw (c .before .c .given .1) at (c .before .before .before .char-at .ensures .1) in (r .0, r .2)
+
+-- So there is room for it.
+few : (c : tie.After-known-told Inv-loop μ-loop) → c .before .before .before .before .loop .count < 256
+few c = let w = wide c in let i = c .before .before .before .before .loop .inv .0 in let n = c .before .before .before .before .before .if1 .left in omega arith
+
+-- At the end the whole name is passed.
+behind : (c : tie.After-enum-told2 Inv-loop μ-loop) → length (c .before .before .before .before .before .before .before .args .name .now) ≤ c .before .before .before .loop .at
+behind c = rw (c .enum-told2 .given .1) at (c .before .before .char-at .ensures .1)
+
+-- A refusal has no characters.
+refuses : (r wanted : Prepared) (f : Fault) → r ≡ heldChars [] f → heldChars [] f ≡ wanted → (r ≡ wanted) × (r .count ≤ 256)
+refuses r wanted f e g = let n = ap (λ (x : Prepared). x .count) e in (e ∙ g, omega arith)
+
+refused-requires : tie.Need-refused-requires Inv-loop μ-loop
+refused-requires c κs = tt
+
+returns : tie.Need-returns Inv-loop μ-loop
+returns c = let a = c .before .before .before .before .args in refuses _ _ _ (c .refused .ensures) (too-long (plateAt (edition1 .width) (a .plate .now)) (a .name .now) (c .before .if1 .taken))
+
+loop-holds : tie.Need-loop-holds Inv-loop μ-loop
+loop-holds c = (omega arith, omega arith, start _ _ (c .if1 .left))
+
+char-at-requires : tie.Need-char-at-requires Inv-loop μ-loop
+char-at-requires c κs = tt
+
+enum-known-c : tie.Need-enum-known-c Inv-loop μ-loop
+enum-known-c c = search needs
+
+add-at : tie.Need-add-at Inv-loop μ-loop
+add-at c = let w = wide c in omega arith
+
+is-space-requires : tie.Need-is-space-requires Inv-loop μ-loop
+is-space-requires c κs = tt
+
+loop-less : tie.Need-loop-less Inv-loop μ-loop
+loop-less c = let w = wide (c .before .before) in omega arith
+
+loop-again : tie.Need-loop-again Inv-loop μ-loop
+loop-again c =
+    let k = c .before .before in
+    let v = k .before .c .given in
+    let w = wide k in
+    let i = c .before .before .before .before .before .before .loop .inv in
+    (omega arith, w .1, space _ _ _ _ _ _ (i .2) _ (k .before .before .before .char-at .ensures .0) _ _ (v .1) (w .0) (sym (c .before .is-space .ensures) ∙ c .if2 .taken))
+
+loop-less-2 : tie.Need-loop-less-2 Inv-loop μ-loop
+loop-less-2 c = let w = wide (c .before .before .before) in omega arith
+
+loop-again-2 : tie.Need-loop-again-2 Inv-loop μ-loop
+loop-again-2 c =
+    let k = c .before .before .before in
+    let v = k .before .c .given in
+    let w = wide k in
+    let i = c .before .before .before .before .before .before .before .loop .inv in
+    (omega arith, w .1, strange _ _ _ _ _ _ (i .2) _ (k .before .before .before .char-at .ensures .0) _ _ (v .1) (w .0) (sym (c .before .before .is-space .ensures) ∙ c .before .if2 .left) (c .if3 .taken))
+
+coded-char-requires : tie.Need-coded-char-requires Inv-loop μ-loop
+coded-char-requires c κs = c .before .before .before .before .before .before .before .before .before .before .before .pre
+
+mul-chars : tie.Need-mul-chars Inv-loop μ-loop
+mul-chars c = omega arith
+
+array-write-chars : tie.Need-array-write-chars Inv-loop μ-loop
+array-write-chars c = few (c .before .before .before .before)
+
+add-count : tie.Need-add-count Inv-loop μ-loop
+add-count c = let w = few (c .before .before .before .before) in omega arith
+
+loop-less-3 : tie.Need-loop-less-3 Inv-loop μ-loop
+loop-less-3 c = let w = wide (c .before .before .before .before) in omega arith
+
+loop-again-3 : tie.Need-loop-again-3 Inv-loop μ-loop
+loop-again-3 c =
+    let k = c .before .before .before .before in
+    let v = k .before .c .given in
+    let w = wide k in
+    let i = c .before .before .before .before .before .before .before .before .loop .inv in
+    (omega arith, w .1, kept _ _ _ _ _ _ (i .2) _ (k .before .before .before .char-at .ensures .0) _ _ (v .1) (w .0) (sym (c .before .before .before .is-space .ensures) ∙ c .before .before .if2 .left) (c .before .if3 .left) (few k) _ (c .coded-char .ensures))
+
+enum-told : tie.Need-enum-told Inv-loop μ-loop
+enum-told c = search needs
+
+refused-requires-2 : tie.Need-refused-requires-2 Inv-loop μ-loop
+refused-requires-2 c κs = tt
+
+returns-2 : tie.Need-returns-2 Inv-loop μ-loop
+returns-2 c = refuses _ _ _ (c .refused2 .ensures) (bad _ _ _ _ _ _ (c .before .before .before .before .loop .inv .2) _ (c .before .before .before .char-at .ensures .0) (c .before .enum-told .given .1))
+
+enum-told-2 : tie.Need-enum-told-2 Inv-loop μ-loop
+enum-told-2 c = search needs
+
+refused-requires-3 : tie.Need-refused-requires-3 Inv-loop μ-loop
+refused-requires-3 c κs = tt
+
+returns-3 : tie.Need-returns-3 Inv-loop μ-loop
+returns-3 c = refuses _ _ _ (c .refused3 .ensures) (end-strange _ _ _ _ _ _ (c .before .before .before .before .before .loop .inv .2) (behind (c .before .before)) (c .before .if4 .taken))
+
+returns-4 : tie.Need-returns-4 Inv-loop μ-loop
+returns-4 c =
+    let i = c .before .before .before .before .loop .inv in
+    let n = c .before .before .before .before .before .if1 .left in
+    (end _ _ _ _ _ _ (i .2) (behind (c .before)) (c .if4 .left), omega arith)
+
+pub prepare-spec : {M : Type 1} → statement M
+prepare-spec =
+    tie.close
+    (tie.spec
+    Inv-loop
+    μ-loop
+    refused-requires
+    returns
+    loop-holds
+    char-at-requires
+    enum-known-c
+    add-at
+    is-space-requires
+    loop-less
+    loop-again
+    loop-less-2
+    loop-again-2
+    coded-char-requires
+    mul-chars
+    array-write-chars
+    add-count
+    loop-less-3
+    loop-again-3
+    enum-told
+    refused-requires-2
+    returns-2
+    enum-told-2
+    refused-requires-3
+    returns-3
+    returns-4)

@@ -1,0 +1,82 @@
+// Encode and list. 01: "Encode and list check 10, 1, 2, 11, 12."
+ghost use mathlib.Core.Path.{_≡_};
+ghost use mathlib.Core.Bool.{true};
+ghost use Prim.Native.Nat.{_+_, _*_, _/_, _≤_, _<_};
+ghost use Rattle.plate.specs.Plate.{edition1};
+ghost use Rattle.plate.specs.Read.{plateAt, acceptedIn};
+ghost use Rattle.coder.specs.Walk.{uses};
+ghost use Rattle.coder.specs.Answer.{smaller, listed, listAnswer, encodeAnswer};
+ghost use Rattle.coder.specs.Held.{cutAll};
+ghost use Rattle.coder.specs.Numbers.{Tells, codeAnswer};
+use super::Coded;
+use super::Fault;
+use super::name::prepare;
+use super::walk::walk;
+use super::write::write;
+use chars::lower::lowers;
+use plate::accept::accept;
+
+// "Room is the smaller of 64 and (buffer length + 1) divided by 7, rounded down."
+fn room_of(n: usize) -> usize
+    requires { ⌜ n < 18446744073709551615 ⌝ }
+    ensures { λ r. ⌜ (r ≡ smaller 64 ((n + 1) / 7)) × (r ≤ 64) × (7 * r ≤ n + 1) ⌝ }
+{
+    let m = (n + 1) / 7;
+    if 64 <= m { 64 } else { m }
+}
+
+// The codes of some characters, written into the buffer if there is room.
+fn code_chars(plate: &[u8], chars: &[u32], out: &mut [u8], most: usize) -> Coded
+    requires { ⌜ acceptedIn edition1 (now plate) ≡ true ⌝ }
+    ensures { λ r. ⌜ Tells (listed (cutAll most (uses (plateAt (edition1 .width) (now (plate .entry)) .rules) (now (chars .entry)))) (now (out .entry))) r (now (out .exit)) ⌝ }
+{
+    let walked = walk(plate, chars, most, room_of(out.len()));
+    if walked.over {
+        return Coded::RoomTooSmall;
+    }
+    let bs = walked.next;
+    write(out, bs);
+    Coded::Codes(bs.count)
+}
+
+// The codes of a name, with the first `most` alternatives of each field.
+fn code_name(plate: &[u8], name: &[u8], out: &mut [u8], most: usize) -> Coded
+    ensures { λ r. ⌜ Tells (codeAnswer most (now (plate .entry)) (now (name .entry)) (now (out .entry))) r (now (out .exit)) ⌝ }
+{
+    if !accept(plate) {
+        return Coded::NotAPlate;
+    }
+    let t = lowers();
+    let p = prepare(plate, name, &t);
+    let fault = p.fault;
+    match fault {
+        Fault::TooLong => {
+            return Coded::NameTooLong;
+        }
+        Fault::NotUtf8 => {
+            return Coded::NotUtf8;
+        }
+        Fault::NotAllowed => {
+            return Coded::CharacterNotAllowed;
+        }
+        Fault::None => {
+            let chars = p.chars;
+            let n = p.count;
+            return code_chars(plate, &chars[..n], out, most);
+        }
+    }
+}
+
+// All codes of a name.
+pub fn list(plate: &[u8], name: &[u8], out: &mut [u8]) -> Coded
+    ensures { λ r. ⌜ Tells (listAnswer (now (plate .entry)) (now (name .entry)) (now (out .entry))) r (now (out .exit)) ⌝ }
+{
+    code_name(plate, name, out, 8)
+}
+
+// One code: "Encode takes the first alternative only."
+pub fn encode(plate: &[u8], name: &[u8], out: &mut [u8]) -> Coded
+    ensures { λ r. ⌜ Tells (encodeAnswer (now (plate .entry)) (now (name .entry)) (now (out .entry))) r (now (out .exit)) ⌝ }
+{
+    code_name(plate, name, out, 1)
+}

@@ -1,0 +1,82 @@
+// From a name's bytes to the characters that are coded.
+ghost use mathlib.Core.Path.{_≡_};
+ghost use mathlib.Core.Bool.{true};
+ghost use mathlib.Core.List.{[]};
+ghost use Prim.Native.Nat.{_≤_};
+ghost use Rattle.chars.specs.Table.{table};
+ghost use Rattle.plate.specs.Plate.{edition1};
+ghost use Rattle.plate.specs.Read.{plateAt, acceptedIn};
+ghost use Rattle.coder.specs.Name.{coded};
+ghost use Rattle.coder.specs.Held.{heldChars, preparedName};
+use super::Fault;
+use super::Prepared;
+use chars::Char;
+use chars::letters::is_space;
+use chars::lower::lower;
+use chars::utf8::char_at;
+use plate::read;
+
+// "Lowercase each other character [..]. With the flag on, fold once, never again."
+fn coded_char(plate: &[u8], t: &[u16; 384], c: u32) -> u32
+    requires { ⌜ (acceptedIn edition1 (now plate) ≡ true) × (now t ≡ table) ⌝ }
+    ensures { λ r. ⌜ r ≡ coded (plateAt (edition1 .width) (now (plate .entry))) c ⌝ }
+{
+    let low = lower(t, c);
+    if read::flag(plate) {
+        return read::fold(plate, low);
+    }
+    low
+}
+
+fn refused(fault: Fault) -> Prepared
+    ensures { λ r. ⌜ r ≡ heldChars [] fault ⌝ }
+{
+    Prepared {
+        chars: [0; 256],
+        count: 0,
+        fault,
+    }
+}
+
+// The characters of a name, in one pass. A sequence that is not UTF-8 decides, though a character that is not allowed stood before it: 2 comes before 11.
+pub fn prepare(plate: &[u8], name: &[u8], t: &[u16; 384]) -> Prepared
+    requires { ⌜ (acceptedIn edition1 (now plate) ≡ true) × (now t ≡ table) ⌝ }
+    ensures { λ r. ⌜ (r ≡ preparedName (plateAt (edition1 .width) (now (plate .entry))) (now (name .entry))) × (r .count ≤ 256) ⌝ }
+{
+    if 256 < name.len() {
+        return refused(Fault::TooLong);
+    }
+    let mut chars = [0; 256];
+    let mut count: usize = 0;
+    let mut foreign = false;
+    let mut at: usize = 0;
+    loop {
+        match char_at(name, at) {
+            Char::One(c, w) => {
+                at += w;
+                if is_space(c) {
+                    continue;
+                }
+                if 0x180 <= c {
+                    foreign = true;
+                    continue;
+                }
+                chars[count] = coded_char(plate, t, c);
+                count += 1;
+            }
+            Char::Bad => {
+                return refused(Fault::NotUtf8);
+            }
+            Char::End => {
+                if foreign {
+                    return refused(Fault::NotAllowed);
+                }
+                return Prepared {
+                    chars,
+                    count,
+                    fault: Fault::None,
+                };
+            }
+        }
+    }
+}
