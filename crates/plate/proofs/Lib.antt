@@ -10,3 +10,13 @@ pub mod Parts
 pub mod Only
 pub mod Sorted
 pub mod Goods
+pub mod Bars
+pub mod Faults
+pub mod Inks
+pub mod Keys
+pub mod Measures
+pub mod Orders
+pub mod Replies
+pub mod Scripts
+pub mod Turns
+pub mod OnlyBuild

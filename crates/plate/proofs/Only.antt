@@ -1,19 +1,22 @@
 -- Only one answer satisfies each promise of this crate, for each says its answer by an equation. Assumes nothing.
-use Prim.Native.Nat.{ℕ, _^_, _<_, _≤_}
+use Prim.Native.Nat.{ℕ, _+_, _^_, _<_, _≤_}
 use mathlib.Core.Path.{_≡_}
 use mathlib.Core.Bool.{Bool}
 use mathlib.Core.List.{List}
 use lib.ListN.{length, take}
+use denote.Ref.{RefT, now}
 use Rattle.laws.proofs.Only.{only}
 use Rattle.chars.specs.Utf8.{charOf}
 use Rattle.plate.specs.Bits.{numberAt}
 use Rattle.plate.specs.Plate.{edition1}
-use Rattle.plate.specs.Read.{patternAt, ruleAt, ruleEnd, foldBy, ruleCount, rulesPlace, plateAt, acceptedIn}
+use Rattle.plate.specs.Read.{patternAt, ruleAt, ruleEnd, foldingAt, foldBy, ruleCount, rulesPlace, plateAt, acceptedIn}
 use Rattle.plate.specs.Answers.{bytesAt, frontOf, frontTo, goodText}
 use Rattle.plate.specs.Stands.{Stands, LetterIs, fieldOf, heldField}
 use Rattle.plate.specs.declared.Front.{Front}
 use Rattle.plate.specs.declared.Letter.{Letter}
 use Rattle.plate.specs.declared.Field.{Field}
+use Rattle.plate.specs.declared.reader.BitReader.{BitReader}
+use Rattle.plate.specs.declared.reader.Folding.{Folding}
 
 module _ (s : List ℕ) where
   -- `count` alike
@@ -54,3 +57,18 @@ module _ (s : List ℕ) where
 
   pub field-at : (at which most : ℕ) (r r′ : Field) → r ≡ heldField (take most (fieldOf (ruleAt s at) which)) → r′ ≡ heldField (take most (fieldOf (ruleAt s at) which)) → r ≡ r′
   field-at at which most r r′ e f = only e f
+
+  pub folding-at : (at : ℕ) (r r′ : Folding) → (r .key ≡ foldingAt s at .key) × (r .target ≡ foldingAt s at .target) → (r′ .key ≡ foldingAt s at .key) × (r′ .target ≡ foldingAt s at .target) → r ≡ r′
+  folding-at at r r′ e f = λ i. record { key = only (e .0) (f .0) i; target = only (e .1) (f .1) i }
+
+-- The bit reader. A reader is the slice that it holds and its place, so what is said of both leaves one reader.
+module _ (bytes : RefT (List ℕ)) (at : ℕ) where
+  pub new : (r r′ : BitReader) → (r .bytes ≡ bytes) × (r .at ≡ at) → (r′ .bytes ≡ bytes) × (r′ .at ≡ at) → r ≡ r′
+  new r r′ e f = λ i. record { bytes = only (e .0) (f .0) i; at = only (e .1) (f .1) i }
+
+module _ (b : BitReader) (n : ℕ) where
+  pub reader-bits : (r r′ : ℕ) → (r ≡ numberAt (now (b .bytes)) (b .at) n) × (r < 2 ^ n) → (r′ ≡ numberAt (now (b .bytes)) (b .at) n) × (r′ < 2 ^ n) → r ≡ r′
+  reader-bits r r′ e f = only (e .0) (f .0)
+
+  pub behind : (r r′ : BitReader) → (r .bytes ≡ b .bytes) × (r .at ≡ b .at + n) → (r′ .bytes ≡ b .bytes) × (r′ .at ≡ b .at + n) → r ≡ r′
+  behind r r′ e f = new (b .bytes) (b .at + n) r r′ e f

@@ -7,3 +7,8 @@ pub mod Worked
 pub mod Answers
 pub mod Stands
 pub mod Field
+pub mod Outcome
+pub mod Pen
+pub mod Sort
+pub mod Survey
+pub mod Writing

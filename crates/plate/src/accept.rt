@@ -15,6 +15,7 @@ use super::Step;
 use super::bits::bits;
 use super::bits::count;
 use super::pattern;
+use super::reader;
 use chars::utf8;
 
 // The last n digits of a number, four bits each, are 0 to 9.
@@ -176,10 +177,10 @@ fn accept_folding(plate: &[u8], at: usize, key: u32) -> bool
     requires { ⌜ at ≤ 20000 ⌝ }
     ensures { λ r. ⌜ r ≡ goodFolding (foldingAt (now (plate .entry)) at) && ltb key (numberAt (now (plate .entry)) at 21) ⌝ }
 {
-    let k = bits(plate, at, 21);
-    if nonzero_scalar(k) {
-        if nonzero_scalar(bits(plate, at + 21, 21)) {
-            return key < k;
+    let folding = reader::folding_at(plate, at);
+    if nonzero_scalar(folding.key) {
+        if nonzero_scalar(folding.target) {
+            return key < folding.key;
         }
     }
     false
