@@ -8,6 +8,7 @@ ghost use Rattle.plate.specs.Plate.{edition1};
 ghost use Rattle.plate.specs.Read.{plateAt, acceptedIn};
 ghost use Rattle.coder.specs.Name.{coded};
 ghost use Rattle.coder.specs.Held.{heldChars, preparedName};
+ghost use Rattle.coder.specs.declared.Fault.the-variants.{None};
 use super::Fault;
 use super::Prepared;
 use chars::Char;
@@ -28,6 +29,7 @@ fn coded_char(plate: &[u8], t: &[u16; 384], c: u32) -> u32
     low
 }
 
+// A name with a fault: no characters.
 fn refused(fault: Fault) -> Prepared
     ensures { λ r. ⌜ r ≡ heldChars [] fault ⌝ }
 {
@@ -35,6 +37,17 @@ fn refused(fault: Fault) -> Prepared
         chars: [0; 256],
         count: 0,
         fault,
+    }
+}
+
+// A name without one.
+fn held(chars: [u32; 256], count: usize) -> Prepared
+    ensures { λ r. ⌜ r ≡ record { chars = chars; count = count; fault = None } ⌝ }
+{
+    Prepared {
+        chars,
+        count,
+        fault: Fault::None,
     }
 }
 
@@ -71,11 +84,7 @@ pub fn prepare(plate: &[u8], name: &[u8], t: &[u16; 384]) -> Prepared
                 if foreign {
                     return refused(Fault::NotAllowed);
                 }
-                return Prepared {
-                    chars,
-                    count,
-                    fault: Fault::None,
-                };
+                return held(chars, count);
             }
         }
     }

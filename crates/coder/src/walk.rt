@@ -8,6 +8,7 @@ ghost use Rattle.plate.specs.Read.{plateAt, acceptedIn};
 ghost use Rattle.coder.specs.Walk.{vowelFollows, forced, uses};
 ghost use Rattle.coder.specs.Held.{hitAt, FoundIs, beforeOf, whichField, cutAll, Walked};
 use super::Found;
+use branches::Branches;
 use branches::Stepped;
 use chars::Next;
 use chars::letters::is_vowel;
@@ -91,6 +92,13 @@ fn is_forced(started: bool, before: u32, c: u32) -> bool
     false
 }
 
+// The walk's answer, and whether it ended because there was no room.
+fn walked(next: Branches, over: bool) -> Stepped
+    ensures { λ r. ⌜ r ≡ record { next = next; over = over } ⌝ }
+{
+    Stepped { next, over }
+}
+
 // The branches along a name; or that they are more than there is room for, "at the start or after some step".
 pub fn walk(plate: &[u8], name: &[u32], most: usize, room: usize) -> Stepped
     requires { ⌜ (acceptedIn edition1 (now plate) ≡ true) × (room ≤ 64) ⌝ }
@@ -98,10 +106,7 @@ pub fn walk(plate: &[u8], name: &[u32], most: usize, room: usize) -> Stepped
 {
     let mut bs = branches::start();
     if room == 0 {
-        return Stepped {
-            next: bs,
-            over: true,
-        };
+        return walked(bs, true);
     }
     let mut started = false;
     let mut before: u32 = 0;
@@ -130,8 +135,5 @@ pub fn walk(plate: &[u8], name: &[u32], most: usize, room: usize) -> Stepped
             }
         }
     }
-    Stepped {
-        next: bs,
-        over: false,
-    }
+    walked(bs, false)
 }

@@ -10,7 +10,7 @@ use branches::Branches;
 
 // One code, at the front of the bytes lent.
 fn put(out: &mut [u8], digits: [u8; 6])
-    requires { ⌜ (6 ≤ length (now out)) × (length digits ≡ 6) ⌝ }
+    requires { ⌜ 6 ≤ length (now out) ⌝ }
     ensures { λ _. ⌜ now (out .exit) ≡ digits ++ drop 6 (now (out .entry)) ⌝ }
 {
     let mut i = 0;

@@ -123,11 +123,15 @@ refused-requires-3 c κs = tt
 returns-3 : tie.Need-returns-3 Inv-loop μ-loop
 returns-3 c = refuses _ _ _ (c .refused3 .ensures) (end-strange _ _ _ _ _ _ (c .before .before .before .before .before .loop .inv .2) (behind (c .before .before)) (c .before .if4 .taken))
 
+held-requires : tie.Need-held-requires Inv-loop μ-loop
+held-requires c κs = tt
+
 returns-4 : tie.Need-returns-4 Inv-loop μ-loop
 returns-4 c =
-    let i = c .before .before .before .before .loop .inv in
-    let n = c .before .before .before .before .before .if1 .left in
-    (end _ _ _ _ _ _ (i .2) (behind (c .before)) (c .if4 .left), omega arith)
+    let i = c .before .before .before .before .before .loop .inv in
+    let n = c .before .before .before .before .before .before .if1 .left in
+    let e = ap (λ (x : Prepared). x .count) (c .held .ensures) in
+    (c .held .ensures ∙ end _ _ _ _ _ _ (i .2) (behind (c .before .before)) (c .before .if4 .left), omega arith)
 
 pub prepare-spec : {M : Type 1} → statement M
 prepare-spec =
@@ -158,4 +162,5 @@ prepare-spec =
     enum-told-2
     refused-requires-3
     returns-3
+    held-requires
     returns-4)

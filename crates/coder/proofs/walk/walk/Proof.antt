@@ -75,12 +75,15 @@ grown c h =
 start-requires : tie.Need-start-requires Inv-loop μ-loop
 start-requires c κs = tt
 
+walked-requires : tie.Need-walked-requires Inv-loop μ-loop
+walked-requires c κs = tt
+
 returns : tie.Need-returns Inv-loop μ-loop
 returns c =
-    let a = c .before .before .before .before .args in
-    let z = c .if1 .taken in
+    let a = c .before .before .before .before .before .args in
+    let z = c .before .if1 .taken in
     let h : a .room < 1 = omega arith in
-    (c .before .start .ensures .0, no-room (plateAt (edition1 .width) (a .plate .now) .rules) (a .name .now) (a .most) (a .room) h)
+    rw (c .walked .ensures) (c .before .before .start .ensures .0, no-room (plateAt (edition1 .width) (a .plate .now) .rules) (a .name .now) (a .most) (a .room) h)
 
 loop-holds : tie.Need-loop-holds Inv-loop μ-loop
 loop-holds c =
@@ -157,8 +160,13 @@ loop-less-3 c = let t = told2 (c .before .before .before .before .before .before
 loop-again-3 : tie.Need-loop-again-3 Inv-loop μ-loop
 loop-again-3 c = (c .before .before .step .ensures .1, grown (c .before .before) (c .before .if3 .left))
 
+walked-requires-2 : tie.Need-walked-requires-2 Inv-loop μ-loop
+walked-requires-2 c κs = tt
+
 returns-3 : tie.Need-returns-3 Inv-loop μ-loop
-returns-3 c = let i = c .before .loop .inv in (i .0, done _ _ _ _ (rules-good _ (c .before .before .before .before .before .before .pre .0)) (rules-ordered _ (c .before .before .before .before .before .before .pre .0)) _ _ _ _ (i .1) (c .loop-test .left))
+returns-3 c =
+    let i = c .before .before .loop .inv in
+    rw (c .walked2 .ensures) (i .0, done _ _ _ _ (rules-good _ (c .before .before .before .before .before .before .before .pre .0)) (rules-ordered _ (c .before .before .before .before .before .before .before .pre .0)) _ _ _ _ (i .1) (c .before .loop-test .left))
 
 pub walk-spec : {M : Type 1} → statement M
 walk-spec =
@@ -167,6 +175,7 @@ walk-spec =
     Inv-loop
     μ-loop
     start-requires
+    walked-requires
     returns
     loop-holds
     mul-c
@@ -192,4 +201,5 @@ walk-spec =
     returns-2
     loop-less-3
     loop-again-3
+    walked-requires-2
     returns-3)

@@ -16,6 +16,10 @@ Inv-loop out₀ digits i₀ out i = (i ≤ 6) × (length out ≡ length out₀) 
 abbrev μ-loop : tie.MeasureT-loop
 μ-loop out₀ digits i₀ out i = 6 - i
 
+-- A code has six digits.
+six : (c : tie.Start Inv-loop μ-loop) → length (c .args .t2) ≡ 6
+six c = search needs
+
 loop-holds : tie.Need-loop-holds Inv-loop μ-loop
 loop-holds c = (omega arith, refl, refl)
 
@@ -38,6 +42,7 @@ loop-again c =
     let i = l .inv in
     let p = c .before .before .pre in
     let t = c .loop-test .taken in
+    let s = six (c .before .before) in
     let h : l .i < length (a .t2) = omega arith in
     let g : l .i < length (a .out .now) = omega arith in
     (omega arith, length-set (l .out) (l .i) _ ∙ i .1, copied (a .t2) (a .out .now) (l .out) (l .i) h g (i .2))
@@ -50,7 +55,7 @@ returns c =
     let l = c .before .loop in
     let a = c .before .before .args in
     let i = l .inv in
-    let p = c .before .before .pre .1 in
+    let s = six (c .before .before) in
     let e : l .i ≡ 6 = omega arith in
     i .2 ∙ rw (e, take-all 6 (a .t2) (omega arith))
 

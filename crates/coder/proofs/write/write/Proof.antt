@@ -7,7 +7,6 @@ use mathlib.Core.List.{List, _++_}
 use native.Mathlib.Omega.{arith}
 use lib.ListN.{length-set, length-drop, length, take, drop}
 use Rattle.laws.proofs.Lists.{rest}
-use Rattle.branches.proofs.Holding.{front, item-ok}
 use Rattle.coder.specs.Answer.{joined}
 use Rattle.coder.proofs.Joined.{barred, rows, rows-six, rows-are, rows-count, rows-at, no-bar, bar, put-on, as-long, all-joined}
 use Rattle.coder.proofs.write.write.Statement.{statement}
@@ -71,10 +70,8 @@ part-put-end c = omega arith
 put-requires : tie.Need-put-requires Inv-loop μ-loop
 put-requires c κs =
     let j = barred-now (c .before .before .before) .0 in
-    let p = c .before .before .before .before .before .before .before .pre in
-    let q = p .1 in
-    let bs = c .before .before .before .before .before .before .before .args .t2 in
-    (rw (rest (7 * c .before .before .before .before .before .loop .k) (c .before .before .before .if1 .out)) (simp length-drop (omega arith)), item-ok (bs .items) (bs .count) (c .before .before .before .before .before .loop .k) (front (bs .items) (bs .count) (p .0)) (c .before .before .before .before .loop-test .taken) .0 .six)
+    let q = c .before .before .before .before .before .before .before .pre .1 in
+    rw (rest (7 * c .before .before .before .before .before .loop .k) (c .before .before .before .if1 .out)) (simp length-drop (omega arith))
 
 add-k : tie.Need-add-k Inv-loop μ-loop
 add-k c = omega arith
