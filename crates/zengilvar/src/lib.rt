@@ -1,0 +1,121 @@
+// The library that C and Rust link: build, encode and list with 01's numbers in place of enums, which C does not have. include/zengilvar.h declares it.
+ghost use Rattle.plate.specs.Build.{buildAnswer};
+ghost use Rattle.coder.specs.Answer.{listAnswer, encodeAnswer};
+ghost use Rattle.plate.specs.Survey.{numberOf};
+ghost use Rattle.zengilvar.specs.Numbers.{Says, Counts, BuiltIs, CodedIs};
+ghost use mathlib.Core.Path.{_≡_};
+use coder::Coded;
+use coder::answer::encode;
+use coder::answer::list;
+use plate::build::Built;
+use plate::build::Fault;
+use plate::build::build;
+
+// What dm_build answers.
+#[repr(C)]
+pub struct DmBuilt {
+    pub number: u64,
+    pub line: u64,
+    pub length: u64,
+}
+
+// What dm_encode and dm_list answer.
+#[repr(C)]
+pub struct DmCoded {
+    pub number: u64,
+    pub count: u64,
+}
+
+// 01's number of a fault.
+fn fault_number(fault: Fault) -> u64
+    ensures { λ r. ⌜ r ≡ numberOf fault ⌝ }
+{
+    match fault {
+        Fault::NotRecognised => 3,
+        Fault::EmptyPattern => 4,
+        Fault::LongPattern => 5,
+        Fault::ManyAlternatives => 6,
+        Fault::NotDigits => 7,
+        Fault::TooMany => 8,
+    }
+}
+
+fn built_refusal(number: u64, line: u64) -> DmBuilt
+    ensures { λ r. ⌜ (r .number ≡ number) × (r .line ≡ line) × (r .length ≡ 0) ⌝ }
+{
+    DmBuilt {
+        number: number,
+        line: line,
+        length: 0,
+    }
+}
+
+// 01's number, line and length of what build answers.
+fn built_numbers(b: Built) -> DmBuilt
+    ensures { λ r. ⌜ Says b r ⌝ }
+{
+    match b {
+        Built::Plate(n) => DmBuilt {
+            number: 0,
+            line: 0,
+            length: n as u64,
+        },
+        Built::LongText => built_refusal(1, 0),
+        Built::NotText => built_refusal(2, 0),
+        Built::Faulty(fault, line) => built_refusal(fault_number(fault), line as u64),
+        Built::ShortBuffer => built_refusal(9, 0),
+    }
+}
+
+fn coded_refusal(number: u64) -> DmCoded
+    ensures { λ r. ⌜ (r .number ≡ number) × (r .count ≡ 0) ⌝ }
+{
+    DmCoded {
+        number: number,
+        count: 0,
+    }
+}
+
+// 01's number and count of what encode and list answer.
+fn coded_numbers(c: Coded) -> DmCoded
+    ensures { λ r. ⌜ Counts c r ⌝ }
+{
+    match c {
+        Coded::Codes(n) => DmCoded {
+            number: 0,
+            count: n as u64,
+        },
+        Coded::NotAPlate => coded_refusal(10),
+        Coded::NameTooLong => coded_refusal(1),
+        Coded::NotUtf8 => coded_refusal(2),
+        Coded::CharacterNotAllowed => coded_refusal(11),
+        Coded::RoomTooSmall => coded_refusal(12),
+    }
+}
+
+// Rule text and a folding flag to a plate, written to the front of `plate`.
+#[no_mangle]
+pub extern "C" fn dm_build(text: &[u8], folding: bool, plate: &mut [u8]) -> DmBuilt
+    ensures { λ r. ⌜ BuiltIs (buildAnswer (now (text .entry)) folding (now (plate .entry))) r (now (plate .exit)) ⌝ }
+{
+    let b = build(text, folding, plate);
+    built_numbers(b)
+}
+
+// One code of a name, written to the front of `out`.
+#[no_mangle]
+pub extern "C" fn dm_encode(plate: &[u8], name: &[u8], out: &mut [u8]) -> DmCoded
+    ensures { λ r. ⌜ CodedIs (encodeAnswer (now (plate .entry)) (now (name .entry)) (now (out .entry))) r (now (out .exit)) ⌝ }
+{
+    let c = encode(plate, name, out);
+    coded_numbers(c)
+}
+
+// All codes of a name, a bar between two, written to the front of `out`.
+#[no_mangle]
+pub extern "C" fn dm_list(plate: &[u8], name: &[u8], out: &mut [u8]) -> DmCoded
+    ensures { λ r. ⌜ CodedIs (listAnswer (now (plate .entry)) (now (name .entry)) (now (out .entry))) r (now (out .exit)) ⌝ }
+{
+    let c = list(plate, name, out);
+    coded_numbers(c)
+}

@@ -1,0 +1,208 @@
+//! Times the archive and the crate in one run, on the same names. Prints tables for docs/FIGURES.md.
+//!
+//! Accept is the time of encode for the empty name: the plate is read whole and nothing is coded. The crate has no such
+//! work. Its source missing, its columns are empty.
+//!
+//! `bench [SECONDS]`: how long each figure is measured (0.2). Run it in release.
+
+mod stack;
+
+use judge::answers::Call;
+use judge::random::Random;
+use judge::{made, plate, text, Content, SMALL, STANDARD};
+use oracle::Coder;
+use std::hint::black_box;
+use std::time::{Duration, Instant};
+use zengilvar::{raw, LONGEST_LIST, LONGEST_PLATE};
+
+/// How many times a figure is taken; the least of them is told.
+const TURNS: usize = 5;
+
+/// Nanoseconds for one of the `each` pieces of work that a run does.
+fn nanoseconds(seconds: f64, each: usize, mut run: impl FnMut()) -> f64 {
+    run();
+    let mut least = f64::INFINITY;
+    for _ in 0..TURNS {
+        let begun = Instant::now();
+        let mut runs = 0;
+        while begun.elapsed() < Duration::from_secs_f64(seconds / TURNS as f64) {
+            run();
+            runs += 1;
+        }
+        least = least.min(begun.elapsed().as_nanos() as f64 / (runs * each) as f64);
+    }
+    least
+}
+
+/// Rules on both sides: the text, the plate, the crate's coder where its source is at hand.
+struct Rules {
+    words: String,
+    plate: Vec<u8>,
+    coder: Option<Coder>,
+}
+
+fn rules(words: &str, text: &str, content: &Content) -> Rules {
+    let coder = oracle::AT_HAND.then(|| oracle::build(text, content.folding).ok()).flatten();
+    Rules { words: words.to_string(), plate: plate::write(content), coder }
+}
+
+fn from_text(words: &str, text: &str) -> Rules {
+    rules(words, text, &text::read(text.as_bytes(), true).expect("a good text"))
+}
+
+/// Rules as text, without a limit on its length.
+fn text_of(content: &Content) -> String {
+    let mut text: String = content.foldings.iter().map(|(key, target)| format!("{key}={target}\n")).collect();
+    for rule in &content.rules {
+        let fields: Vec<String> = rule.fields.iter().map(|field| format!("\"{}\"", field.join("|"))).collect();
+        text += &format!("\"{}\" {}\n", rule.pattern, fields.join(" "));
+    }
+    text
+}
+
+/// The standard rules and more of their kind behind them, up to 512 rules; with `full` all fields are filled, the
+/// foldings are 128 and the plate is the longest there is.
+fn large(full: bool) -> Content {
+    let mut content = text::read(STANDARD.as_bytes(), true).expect("the standard rules are built");
+    let mut number = 0;
+    while content.rules.len() < 512 {
+        let letters = ["qv", "xq", "vw", "jx"][number % 4];
+        let mut rule = content.rules[number % 124].clone();
+        rule.pattern = format!("{letters}{number:03}");
+        content.rules.push(rule);
+        number += 1;
+    }
+    if full {
+        for (number, rule) in content.rules.iter_mut().enumerate() {
+            rule.pattern = format!("{}{number:0>width$}", rule.pattern, width = 16 - rule.pattern.len());
+            for field in &mut rule.fields {
+                *field = (0..8).map(|k| format!("{:06}", (number * 8 + k) * 7919 % 1_000_000)).collect();
+            }
+        }
+        let keys = (0x180..).filter_map(char::from_u32);
+        let missing = 128 - content.foldings.len();
+        content.foldings.extend(keys.take(missing).map(|key| (key, 'a')));
+    }
+    content.rules.sort_by(|a, b| {
+        a.pattern.chars().next().cmp(&b.pattern.chars().next()).then(b.pattern.len().cmp(&a.pattern.len()))
+    });
+    content
+}
+
+fn ours(seconds: f64, call: Call, rules: &Rules, names: &[String]) -> f64 {
+    let mut out = [0; LONGEST_LIST];
+    nanoseconds(seconds, names.len(), || {
+        for name in names {
+            let coded = match call {
+                Call::Encode => raw::encode(black_box(&rules.plate), black_box(name.as_bytes()), &mut out),
+                Call::List => raw::list(black_box(&rules.plate), black_box(name.as_bytes()), &mut out),
+            };
+            black_box(coded);
+        }
+    })
+}
+
+fn theirs(seconds: f64, call: Call, rules: &Rules, names: &[String]) -> Option<f64> {
+    let coder = rules.coder.as_ref()?;
+    Some(nanoseconds(seconds, names.len(), || {
+        for name in names {
+            black_box(match call {
+                Call::Encode => coder.encode(black_box(name)),
+                Call::List => coder.soundex(black_box(name)),
+            });
+        }
+    }))
+}
+
+fn row(words: &str, here: f64, rust: Option<f64>) {
+    match rust {
+        Some(rust) => println!("| {words} | {here:.0} | {rust:.0} | {:.2} |", here / rust),
+        None => println!("| {words} | {here:.0} | - | - |"),
+    }
+}
+
+fn head(words: &str) {
+    println!("\n| {words} | ns here | ns in the Rust | here / Rust |\n|---|---|---|---|");
+}
+
+fn both(seconds: f64, words: &str, call: Call, rules: &Rules, names: &[String]) {
+    row(words, ours(seconds, call, rules, names), theirs(seconds, call, rules, names));
+}
+
+fn main() {
+    let seconds = std::env::args().nth(1).map_or(0.2, |word| word.parse().expect("SECONDS is a number"));
+    let mut random = Random::new(1);
+    let names: Vec<String> = (0..2_000).map(|_| made::surname(&mut random)).collect();
+    let empty = vec![String::new()];
+    let standard = from_text("standard rules", STANDARD);
+    let small = from_text("small text S", SMALL);
+
+    head("a name, standard rules, 2,000 made surnames");
+    both(seconds, "encode", Call::Encode, &standard, &names);
+    both(seconds, "list (soundex)", Call::List, &standard, &names);
+
+    head("a name, small text S, the same surnames");
+    both(seconds, "encode", Call::Encode, &small, &names);
+    both(seconds, "list (soundex)", Call::List, &small, &names);
+
+    head("once");
+    for (words, text) in [("build, standard rules", STANDARD), ("build, small text S", SMALL)] {
+        let mut out = vec![0; LONGEST_PLATE];
+        let here = nanoseconds(seconds, 1, || {
+            black_box(raw::build(black_box(text.as_bytes()), true, &mut out));
+        });
+        let rust = oracle::AT_HAND.then(|| {
+            nanoseconds(seconds, 1, || {
+                black_box(oracle::build(black_box(text), true).is_ok());
+            })
+        });
+        row(words, here, rust);
+    }
+    for rules in [&standard, &small] {
+        let words = format!("accept, {}", rules.words);
+        row(&words, ours(seconds, Call::Encode, rules, &empty), None);
+    }
+
+    head("list by plate, `Rosochowaciec`");
+    let name = vec!["Rosochowaciec".to_string()];
+    let (wide, full) = (large(false), large(true));
+    let plates = [
+        from_text("11 rules", SMALL),
+        from_text("124 rules", STANDARD),
+        rules("512 rules", &text_of(&wide), &wide),
+        rules("512 rules, the longest plate", &text_of(&full), &full),
+    ];
+    for rules in &plates {
+        let words = format!("{}, {} bytes", rules.words, rules.plate.len());
+        both(seconds, &words, Call::List, rules, &name);
+        row(&format!("{words}, accept"), ours(seconds, Call::Encode, rules, &empty), None);
+    }
+
+    head("list by length of the name, standard rules, 1 branch");
+    for length in [1, 2, 4, 8, 16, 32, 64, 128, 256] {
+        let name = vec!["rolawen".chars().cycle().take(length).collect::<String>()];
+        both(seconds, &format!("{length} bytes"), Call::List, &standard, &name);
+    }
+
+    head("list by branches, small text S");
+    for pairs in 0..=6 {
+        let name = vec!["ca".repeat(pairs)];
+        both(seconds, &format!("{} branches, {} bytes", 1 << pairs, 2 * pairs), Call::List, &small, &name);
+    }
+
+    println!("\n| deepest stack | bytes |\n|---|---|");
+    let mut out = vec![0; LONGEST_PLATE];
+    let full_plate = &plates[3].plate;
+    let long = "ca".repeat(6) + &"r".repeat(244);
+    stack::tell("build, standard rules", || {
+        raw::build(STANDARD.as_bytes(), true, &mut out);
+    });
+    for (words, plate) in [("small text S", &small.plate), ("the longest plate", full_plate)] {
+        stack::tell(&format!("encode, 256 bytes, {words}"), || {
+            raw::encode(plate, long.as_bytes(), &mut out);
+        });
+        stack::tell(&format!("list, 256 bytes, 64 branches, {words}"), || {
+            raw::list(plate, long.as_bytes(), &mut out);
+        });
+    }
+}

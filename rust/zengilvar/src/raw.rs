@@ -1,0 +1,61 @@
+//! The calls of libzengilvar.a as they are, on slices. Nothing is demanded of the bytes or the lengths.
+//!
+//! The declarations must say what include/zengilvar.h says: nothing checks the two against each other.
+
+/// What `build` answers: number (0 if answered), line (0 except with refusals 3 to 8), length of the plate (0 if
+/// refused).
+#[repr(C)]
+#[derive(Debug, Clone, Copy, PartialEq, Eq)]
+pub struct Built {
+    pub number: u64,
+    pub line: u64,
+    pub length: u64,
+}
+
+/// What `encode` and `list` answer: number (0 if answered), count of codes (0 if refused).
+#[repr(C)]
+#[derive(Debug, Clone, Copy, PartialEq, Eq)]
+pub struct Coded {
+    pub number: u64,
+    pub count: u64,
+}
+
+extern "C" {
+    fn dm_build(text: *const u8, text_len: usize, folding: bool, plate: *mut u8, plate_len: usize) -> Built;
+
+    fn dm_encode(
+        plate: *const u8,
+        plate_len: usize,
+        name: *const u8,
+        name_len: usize,
+        out: *mut u8,
+        out_len: usize,
+    ) -> Coded;
+
+    fn dm_list(
+        plate: *const u8,
+        plate_len: usize,
+        name: *const u8,
+        name_len: usize,
+        out: *mut u8,
+        out_len: usize,
+    ) -> Coded;
+}
+
+/// Rule text and folding flag to a plate, at the front of `plate`. Refused, no byte of it is changed.
+pub fn build(text: &[u8], folding: bool, plate: &mut [u8]) -> Built {
+    // SAFETY: both slices are valid for their lengths, and `plate` is borrowed alone, so it is apart from `text`.
+    unsafe { dm_build(text.as_ptr(), text.len(), folding, plate.as_mut_ptr(), plate.len()) }
+}
+
+/// The first code of the name, at the front of `out`. Refused, no byte of it is changed.
+pub fn encode(plate: &[u8], name: &[u8], out: &mut [u8]) -> Coded {
+    // SAFETY: the slices are valid for their lengths, and `out` is borrowed alone, so it is apart from the others.
+    unsafe { dm_encode(plate.as_ptr(), plate.len(), name.as_ptr(), name.len(), out.as_mut_ptr(), out.len()) }
+}
+
+/// All codes of the name, at the front of `out`, a bar between two. Refused, no byte of it is changed.
+pub fn list(plate: &[u8], name: &[u8], out: &mut [u8]) -> Coded {
+    // SAFETY: the slices are valid for their lengths, and `out` is borrowed alone, so it is apart from the others.
+    unsafe { dm_list(plate.as_ptr(), plate.len(), name.as_ptr(), name.len(), out.as_mut_ptr(), out.len()) }
+}
