@@ -15,7 +15,7 @@ use Rattle.laws.proofs.Lists.{cat-append}
 use Rattle.plate.specs.Bits.{bitsOf, unpack, pack}
 use Rattle.plate.proofs.Packed.{Bytes, length-bitsOf, zero-bits, pack-unpack, pack-fill}
 use Rattle.plate.proofs.Place.{length-unpack}
-use Rattle.plate.specs.Pen.{bitsIn, Ready, Wrote}
+use Rattle.plate.specs.Pen.{bitsIn, Ready, Wrote, Finished}
 use Rattle.plate.specs.declared.pen.Pen.{Pen}
 
 -- ---- numbers
@@ -203,10 +203,12 @@ module _ {out out₁ : List ℕ} {p p₁ : Pen} (n : ℕ) (e : n ≡ 7 - (p .cou
       ∙ pack-fill (bitsIn out p) n (omega (arith, e)) whole
 
   -- The bytes are the bits, packed, and what stood behind them.
-  pub finished : (out₁ ≡ pack (bitsIn out p) ++ drop (p₁ .bytes) out) × (p₁ .bytes ≡ length (pack (bitsIn out p))) × (p .bytes ≤ p₁ .bytes)
+  pub finished : Finished out p out₁ (p₁ .bytes)
   finished = (
-    sym (take-append-drop (p₁ .bytes) out₁) ∙ ap₂ _++_ packed (w .kept),
-    sym (length-take-le (p₁ .bytes) out₁ (omega (arith, w .size, w .moved, r .room, e, length-bitsOf n 0, r .part, empty))) ∙ ap length packed,
+    (
+      sym (take-append-drop (p₁ .bytes) out₁) ∙ ap₂ _++_ packed (w .kept),
+      sym (length-take-le (p₁ .bytes) out₁ (omega (arith, w .size, w .moved, r .room, e, length-bitsOf n 0, r .part, empty))) ∙ ap length packed,
+    ),
     omega (arith, w .moved, w .part, r .part, length-bitsOf n 0, empty),
   )
 

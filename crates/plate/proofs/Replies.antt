@@ -17,6 +17,7 @@ use Rattle.rule_text.specs.Items.{items, firstLine}
 use Rattle.plate.specs.Build as Build
 use Rattle.plate.specs.Build.{Book, blank, verdict, refusal, delivered, answered, nonzero, buildAnswer}
 use Rattle.plate.specs.Build.Verdict.{Faulty, Fine}
+use Rattle.plate.specs.Pen.{Stored}
 use Rattle.plate.specs.Writing.{bytesOf}
 
 -- Each byte is nonzero where none is zero.
@@ -79,7 +80,7 @@ module _ (text : List ℕ) (flag : Bool) (lent : List ℕ) where
               (record { number = 0; line = 0; length = length (bytesOf flag b); buffer = bytesOf flag b ++ drop (length (bytesOf flag b)) lent }))
               (lt-ltb (length lent) (length (bytesOf flag b)) l))
 
-          pub plate-built : (n : ℕ) (out : List ℕ) → n ≤ length lent → (out ≡ bytesOf flag b ++ drop n lent) × (n ≡ length (bytesOf flag b))
+          pub plate-built : (n : ℕ) (out : List ℕ) → n ≤ length lent → Stored lent (bytesOf flag b) out n
               → _≡_ {A = Build.Built} (record { number = 0; line = 0; length = n; buffer = out }) (buildAnswer text flag lent)
           plate-built n out l w =
               let plate = bytesOf flag b in

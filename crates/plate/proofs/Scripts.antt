@@ -19,7 +19,7 @@ use Rattle.plate.specs.Plate.{Rule}
 use Rattle.plate.specs.Written.{flagBit, fieldBits, ruleBits, foldingBits}
 use Rattle.plate.specs.Build.{ruleOf, ruleFault}
 use Rattle.plate.proofs.Packed.{length-bitsOf}
-use Rattle.plate.specs.Pen.{begin, bitsIn, Ready, Wrote}
+use Rattle.plate.specs.Pen.{begin, bitsIn, Ready, Wrote, Stored, Finished}
 use Rattle.plate.specs.Survey.{placeIn, itemAt, ruleSaid, view, Flawless, Sure, foldingIn, bookOf, Kept}
 use Rattle.plate.specs.Writing.{runBits, headOf, bytesOf}
 use Rattle.plate.specs.declared.pen.Pen.{Pen}
@@ -209,13 +209,12 @@ module _ (text : List ℕ) (tally : Tally) (keys foldings : List ℕ) (flag : Bo
           ready-end = ready-then (H ++ (F ++ R)) [] (ready-as (sym (append-nil (H ++ (F ++ R)))) ready₀) all
 
           -- The bytes are the plate's, and what stood behind them.
-          pub wrote-plate : (out₄ : List ℕ) (n : ℕ) → (out₄ ≡ pack (bitsIn out₃ pen₃) ++ drop n out₃) × (n ≡ length (pack (bitsIn out₃ pen₃))) × (pen₃ .bytes ≤ n)
-              → (out₄ ≡ bytesOf flag (bookOf text tally keys foldings) ++ drop n out) × (n ≡ length (bytesOf flag (bookOf text tally keys foldings)))
+          pub wrote-plate : (out₄ : List ℕ) (n : ℕ) → Finished out₃ pen₃ out₄ n → Stored out (bytesOf flag (bookOf text tally keys foldings)) out₄ n
           wrote-plate out₄ n h =
               let is : pack (bitsIn out₃ pen₃) ≡ bytesOf flag (bookOf text tally keys foldings) = ap pack (all .is) ∙ plate-is in
-              let le = h .2 in
+              let le = h .1 in
               let on : pen₃ .bytes + (n - pen₃ .bytes) ≡ n = omega arith in
               let kept : drop n out₃ ≡ drop n out =
               ap (λ (m : ℕ). drop m out₃) (sym on) ∙ sym (drop-drop (n - pen₃ .bytes) (pen₃ .bytes) out₃) ∙ ap (drop (n - pen₃ .bytes)) (all .kept)
               ∙ drop-drop (n - pen₃ .bytes) (pen₃ .bytes) out ∙ ap (λ (m : ℕ). drop m out) on
-              in (h .0 ∙ ap₂ _++_ is kept, h .1 ∙ ap length is)
+              in (h .0 .0 ∙ ap₂ _++_ is kept, h .0 .1 ∙ ap length is)

@@ -3,7 +3,7 @@ use Prim.Native.Nat.{ℕ, _+_, _*_, _^_, _<_, _≤_}
 use mathlib.Core.Path.{_≡_}
 use mathlib.Core.List.{List, _++_}
 use lib.ListN.{length, take, drop}
-use Rattle.plate.specs.Bits.{bitsOf, unpack}
+use Rattle.plate.specs.Bits.{bitsOf, unpack, pack}
 use Rattle.plate.specs.declared.pen.Pen.{Pen}
 
 -- nothing is written yet
@@ -28,3 +28,11 @@ pub record Wrote (out : List ℕ) (p : Pen) (bits : List ℕ) (out′ : List ℕ
   pub kept : drop (p′ .bytes) out′ ≡ drop (p′ .bytes) out
   pub size : length out′ ≡ length out
   pub moved : 8 * p′ .bytes + p′ .count ≡ 8 * p .bytes + p .count + length bits
+
+-- n bytes stand in front of what was lent
+abbrev pub Stored : List ℕ → List ℕ → List ℕ → ℕ → Type 0
+Stored out bytes out′ n = (out′ ≡ bytes ++ drop n out) × (n ≡ length bytes)
+
+-- the bits that stood up to the pen are whole bytes, and nothing behind them was touched
+abbrev pub Finished : List ℕ → Pen → List ℕ → ℕ → Type 0
+Finished out p out′ n = Stored out (pack (bitsIn out p)) out′ n × (p .bytes ≤ n)

@@ -1,10 +1,9 @@
-// Bits written one behind the other, most significant first. Whole bytes are stored as they fill.
+// Bits written one behind the other, most significant first. Whole bytes are stored as they fill, so that the buffer is touched only where the plate stands.
 ghost use mathlib.Core.Path.{_≡_};
-ghost use mathlib.Core.List.{[], _++_};
+ghost use mathlib.Core.List.{[]};
 ghost use Prim.Native.Nat.{_^_, _≤_, _<_};
-ghost use lib.ListN.{length, drop};
-ghost use Rattle.plate.specs.Bits.{bitsOf, pack};
-ghost use Rattle.plate.specs.Pen.{Ready, Wrote, bitsIn, begin};
+ghost use Rattle.plate.specs.Bits.{bitsOf};
+ghost use Rattle.plate.specs.Pen.{begin, Ready, Wrote, Finished};
 
 // How many whole bytes are written, and the bits that are not yet a byte: their number and how many they are.
 pub struct Pen {
@@ -48,7 +47,7 @@ pub(crate) fn put(out: &mut [u8], pen: Pen, width: usize, number: u64) -> Pen
 // 01: "Zero bits fill the last byte." How many bytes there are then.
 pub(crate) fn finish(out: &mut [u8], pen: Pen) -> usize
     requires { ⌜ Ready (now out) pen [] ⌝ }
-    ensures { λ r. ⌜ (now (out .exit) ≡ pack (bitsIn (now (out .entry)) pen) ++ drop r (now (out .entry))) × (r ≡ length (pack (bitsIn (now (out .entry)) pen))) × (pen .bytes ≤ r) ⌝ }
+    ensures { λ r. ⌜ Finished (now (out .entry)) pen (now (out .exit)) r ⌝ }
 {
     let filled = put(out, pen, 7 - (pen.count + 7) % 8, 0);
     filled.bytes

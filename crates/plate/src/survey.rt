@@ -101,7 +101,7 @@ fn wide(c: u32) -> u64
     c as u64
 }
 
-// A rule as one number: first code point rising, byte length falling, place in the text rising.
+// A rule as one number, so that keys stand as 01 orders rules: "by first code point rising, then byte length falling, then text order".
 fn key_of(pattern: &[u8], at: usize) -> u64
     requires { ⌜ (length (now pattern) ≤ 16) × (at < 65536) ⌝ }
     ensures { λ r. ⌜ r ≡ key (codeOf (charOf (now (pattern .entry)))) (length (now (pattern .entry))) at ⌝ }

@@ -1,14 +1,14 @@
 // The second pass: what the text says, written as a plate's bits. Each rule is read again at its place in the text.
 ghost use mathlib.Core.Path.{_≡_};
 ghost use mathlib.Core.Bool.{true};
-ghost use mathlib.Core.List.{_++_, map};
+ghost use mathlib.Core.List.{map};
 ghost use Prim.Native.Nat.{_+_, _*_, _≤_, _<_};
-ghost use lib.ListN.{length, take, drop};
+ghost use lib.ListN.{length, take};
 ghost use Rattle.laws.specs.Lists.{every, cat};
 ghost use Rattle.rule_text.specs.Fields.{alternatives, isAlternative, fieldFault};
 ghost use Rattle.plate.specs.Written.{flagBit, alternativeBits, fieldBits, foldingBits, ruleBits};
 ghost use Rattle.plate.specs.Build.{ruleOf, ruleFault};
-ghost use Rattle.plate.specs.Pen.{Ready, Wrote};
+ghost use Rattle.plate.specs.Pen.{Ready, Wrote, Stored};
 ghost use Rattle.plate.specs.Survey.{view, foldingIn, Small, AllSmall, Sure, AllSure, Kept, bookOf};
 ghost use Rattle.plate.specs.Writing.{runBits, Fitting, headOf, bytesOf};
 use super::pen::Pen;
@@ -195,7 +195,7 @@ pub(crate) fn write_plate(
     flag: bool,
 ) -> usize
     requires { ⌜ Kept (now text) tally (now keys) (now foldings) × (32 + 42 * tally .foldings + tally .bits ≤ 8 * length (now out)) ⌝ }
-    ensures { λ r. ⌜ (now (out .exit) ≡ bytesOf flag (bookOf (now (text .entry)) tally (now (keys .entry)) (now (foldings .entry))) ++ drop r (now (out .entry))) × (r ≡ length (bytesOf flag (bookOf (now (text .entry)) tally (now (keys .entry)) (now (foldings .entry))))) ⌝ }
+    ensures { λ r. ⌜ Stored (now (out .entry)) (bytesOf flag (bookOf (now (text .entry)) tally (now (keys .entry)) (now (foldings .entry)))) (now (out .exit)) r ⌝ }
 {
     let headed = put_head(out, start(), tally.rules, tally.foldings, flag);
     let folded = put_pairs(out, headed, foldings, tally.foldings);
