@@ -2,24 +2,20 @@
 -- Assumes nothing.
 use Prim.Native.Nat.{ℕ, _≤_, _<_}
 use mathlib.Core.Path.{_≡_, refl, sym, ap, subst, _∙_}
-use mathlib.Core.Bool.{Bool, true, false, cond, _||_, false≢true}
+use mathlib.Core.Bool.{Bool, true, false, cond, _||_}
 use mathlib.Core.Option.{none, some}
 use mathlib.Core.List.{List, [], _∷_}
 use native.Mathlib.Omega.{arith}
 use borrow.Author.Tests.{lt-ltb, le-ltb, ltb-true, ltb-false}
 use lib.Dec.{ltb}
 use lib.ListN.{length}
+use Rattle.laws.proofs.Tests.{neither}
 use Rattle.branches.specs.Branches.{Branch, Use, met, step, run, over, start}
 use Rattle.branches.specs.Choice.{Filled, Single}
 use Rattle.branches.specs.Held.{branchesOf, Answered}
 use Rattle.branches.specs.Room.{outcome}
 use Rattle.branches.specs.declared.Stepped.{Stepped}
 use Rattle.branches.proofs.Choice.{run-first}
-
--- Where either-or fails, both fail.
-neither : (a b : Bool) → a || b ≡ false → (a ≡ false) × (b ≡ false)
-neither true b e = absurd (false≢true (sym e))
-neither false b e = (refl, e)
 
 -- ---- room
 

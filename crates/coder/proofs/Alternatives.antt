@@ -11,7 +11,8 @@ use lib.ListN.{length, take, replicate, length-append, length-replicate, length-
 use lib.Seq.{take-at, drop-at}
 use Rattle.laws.specs.Lists.{every, between}
 use Rattle.laws.specs.Arrays.{Each}
-use Rattle.laws.proofs.Tests.{and-true, both-true, between-true}
+use Rattle.laws.proofs.Tests.{and-true, between-true}
+use Rattle.laws.proofs.Cuts.{every-take}
 use Rattle.rule_text.specs.Fields.{isAlternative, digit}
 use Rattle.plate.specs.Plate.{Rule, goodRule, goodPattern, goodField}
 use Rattle.plate.specs.Stands.{fieldOf, held, heldField}
@@ -33,12 +34,7 @@ rule-field r g which = go which
     go (suc zero) = and-true (goodField (r .vowel)) (goodField (r .other)) others .0
     go (suc (suc k)) = and-true (goodField (r .vowel)) (goodField (r .other)) others .1
 
--- The first of good alternatives are good, and no more than all.
-every-take : {A : Type 0} (t : A → Bool) (n : ℕ) (l : List A) → every t l ≡ true → every t (take n l) ≡ true
-every-take t zero l h = refl
-every-take t (suc n) [] h = refl
-every-take t (suc n) (x ∷ l) h = let b = and-true (t x) (every t l) h in both-true (b .0) (every-take t n l (b .1))
-
+-- The first of a list are no more than all.
 take-short : {A : Type 0} (n : ℕ) (l : List A) → length (take n l) ≤ length l
 take-short zero l = omega arith
 take-short (suc n) [] = omega arith

@@ -13,6 +13,7 @@ use lib.Dec.{ltb, leb, eqb}
 use lib.ListN.{length, length-append}
 use Rattle.laws.specs.Lists.{In, every, keep, begins, cat, between}
 use Rattle.laws.proofs.Tests.{and-true, or-true, between-true}
+use Rattle.laws.proofs.Members.{in-keep, in-every}
 use Rattle.chars.specs.Utf8.{bytesOf, bytesOfAll, charsOf, charOf, codeOf, isText, charsFrom}
 use Rattle.chars.proofs.Exact.{decoded-text, bytes-count}
 use Rattle.plate.specs.Plate.{Rule, goodRule, goodPattern, goodField, nonzeroByte, firstCode, mayPrecede, ordered}
@@ -103,20 +104,6 @@ behind r (x ∷ more) h q i =
         )
 
 -- ---- the first that fits is the longest
-
-in-keep : {A : Type 0} (t : A → Bool) (l : List A) (x : A) → In x (keep t l) → In x l × (t x ≡ true)
-in-keep t [] x i = absurd i
-in-keep {A} t (y ∷ l) x i = go (t y) refl i (in-keep t l x)
-  where
-    go : (b : Bool) → t y ≡ b → In x (cond b (y ∷ keep t l) (keep t l)) → (In x (keep t l) → In x l × (t x ≡ true)) → ((x ≡ y) ⊎ In x l) × (t x ≡ true)
-    go true e (inl f) below = (inl f, ap t f ∙ e)
-    go true e (inr k) below = let m = below k in (inr (m .0), m .1)
-    go false e k below = let m = below k in (inr (m .0), m .1)
-
-in-every : {A : Type 0} (t : A → Bool) (l : List A) (x : A) → every t l ≡ true → In x l → t x ≡ true
-in-every t [] x h i = absurd i
-in-every t (y ∷ l) x h (inl e) = ap t e ∙ and-true (t y) (every t l) h .0
-in-every t (y ∷ l) x h (inr k) = in-every t l x (and-true (t y) (every t l) h .1) k
 
 -- What `longest` answers stands in the list.
 abbrev Found : List Rule → Option Rule → Type 0

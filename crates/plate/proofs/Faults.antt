@@ -47,11 +47,11 @@ pass zero more e = refl
 pass (suc a) more e = absurd (omega arith)
 
 -- each is 0
-abbrev Zeros : List ℕ → Type 0
+abbrev pub Zeros : List ℕ → Type 0
 Zeros [] = Unit {0}
 Zeros (n ∷ more) = (n ≡ 0) × Zeros more
 
-no-fault : (l : List ℕ) → firstFault l ≡ 0 → Zeros l
+pub no-fault : (l : List ℕ) → firstFault l ≡ 0 → Zeros l
 no-fault [] e = tt
 no-fault (zero ∷ more) e = (refl, no-fault more e)
 no-fault (suc n ∷ more) e = absurd (omega arith)

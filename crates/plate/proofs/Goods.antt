@@ -58,6 +58,7 @@ use Rattle.plate.specs.Build.{
 }
 use Rattle.plate.specs.Build.Verdict.{Faulty, Fine}
 use Rattle.plate.proofs.Packed.{Bytes}
+use Rattle.plate.proofs.Faults.{no-fault, not-when}
 use Rattle.plate.proofs.Round.{edition1-reads, edition1-accepted}
 use Rattle.plate.proofs.Sorted.{put-ordered, put-every, put-length, put-rising, put-each}
 
@@ -83,20 +84,6 @@ field-good f e = go (leb (length (alternatives f)) 8) (every isAlternative (alte
     go false digits a b z = absurd (omega arith)
 
 -- ---- a rule without fault is good
-
--- each is 0
-abbrev Zeros : List ℕ → Type 0
-Zeros [] = Unit {0}
-Zeros (n ∷ more) = (n ≡ 0) × Zeros more
-
-no-fault : (l : List ℕ) → firstFault l ≡ 0 → Zeros l
-no-fault [] e = tt
-no-fault (zero ∷ more) e = (refl, no-fault more e)
-no-fault (suc n ∷ more) e = absurd (omega arith)
-
-not-when : (b : Bool) (n : ℕ) → 0 < n → when b n ≡ 0 → b ≡ false
-not-when true n h e = absurd (omega arith)
-not-when false n h e = refl
 
 rule-good : (p s v o : List ℕ) (n : ℕ) → (isText p ≡ true) × (every nonzeroByte p ≡ true) → ruleFault p s v o n ≡ 0 → (goodRule (ruleOf p s v o) ≡ true) × (n < 512)
 rule-good p s v o n c e =

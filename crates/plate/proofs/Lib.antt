@@ -9,7 +9,6 @@ pub mod Accepted
 pub mod Parts
 pub mod Only
 pub mod Sorted
-pub mod Goods
 pub mod Bars
 pub mod Faults
 pub mod Inks
@@ -20,3 +19,4 @@ pub mod Replies
 pub mod Scripts
 pub mod Turns
 pub mod OnlyBuild
+pub mod Goods

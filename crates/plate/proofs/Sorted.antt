@@ -9,28 +9,16 @@ use borrow.Author.Tests.{ltb-true, ltb-false, leb-true, leb-false, eqb-true, eqb
 use lib.Dec.{ltb, leb, eqb}
 use lib.ListN.{length}
 use Rattle.laws.specs.Lists.{every}
-use Rattle.laws.proofs.Tests.{and-true, both-true}
+use Rattle.laws.proofs.Tests.{and-true, both-true, or-left, or-right, neither}
 use Rattle.plate.specs.Plate.{Folding, Rule, mayPrecede, ordered, rising, firstCode}
 use Rattle.plate.specs.Build.{putRule, putFolding}
 
 -- ---- rules
 
-or-left : (a b : Bool) → a ≡ true → a || b ≡ true
-or-left true b e = refl
-or-left false b e = absurd (false≢true e)
-
-or-right : (a b : Bool) → b ≡ true → a || b ≡ true
-or-right true b e = refl
-or-right false b e = e
-
-or-false : (a b : Bool) → a || b ≡ false → (a ≡ false) × (b ≡ false)
-or-false true b e = absurd (false≢true (sym e))
-or-false false b e = (refl, e)
-
 -- Of two rules one may precede the other.
 total : (q r : Rule) → mayPrecede q r ≡ false → mayPrecede r q ≡ true
 total q r h =
-    let n = or-false (ltb (firstCode q) (firstCode r)) (eqb (firstCode q) (firstCode r) && leb (length (r .pattern)) (length (q .pattern))) h in
+    let n = neither (ltb (firstCode q) (firstCode r)) (eqb (firstCode q) (firstCode r) && leb (length (r .pattern)) (length (q .pattern))) h in
     let c = ltb-false (firstCode q) (firstCode r) (n .0) in
     go (eqb (firstCode q) (firstCode r)) refl (leb (length (r .pattern)) (length (q .pattern))) refl (n .1) c
   where
