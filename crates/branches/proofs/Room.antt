@@ -2,7 +2,7 @@
 -- Assumes nothing.
 use Prim.Native.Nat.{ℕ, _≤_, _<_}
 use mathlib.Core.Path.{_≡_, refl, sym, ap, subst, _∙_}
-use mathlib.Core.Bool.{Bool, true, false, cond, _||_}
+use mathlib.Core.Bool.{Bool, true, false, cond}
 use mathlib.Core.Option.{none, some}
 use mathlib.Core.List.{List, [], _∷_}
 use native.Mathlib.Omega.{arith}
@@ -11,11 +11,10 @@ use lib.Dec.{ltb}
 use lib.ListN.{length}
 use Rattle.laws.proofs.Tests.{neither}
 use Rattle.branches.specs.Branches.{Branch, Use, met, step, run, over, start}
-use Rattle.branches.specs.Choice.{Filled, Single}
+use Rattle.branches.specs.Choice.{Single}
 use Rattle.branches.specs.Held.{branchesOf, Answered}
 use Rattle.branches.specs.Room.{outcome}
 use Rattle.branches.specs.declared.Stepped.{Stepped}
-use Rattle.branches.proofs.Choice.{run-first}
 
 -- ---- room
 
@@ -34,10 +33,7 @@ unfolding over run
 run-fits room [] bs e = ltb-false room (length bs) e
 run-fits room (u ∷ us) bs e = run-fits room us (step u bs) (neither (ltb room (length bs)) (over room us (step u bs)) e .1)
 
--- There is always a branch, so room for none holds no name.
-pub never-empty : (us : List Use) (b : Branch) (bs : List Branch) → Filled us → 0 < length (run us (b ∷ bs))
-never-empty us b bs h = let s = run-first us b bs h in subst (λ (l : List Branch). 0 < length l) (sym (s .1)) (omega arith)
-
+-- Room for none holds no name.
 pub no-room : (us : List Use) → over 0 us start ≡ true
 unfolding over
 no-room [] = refl
@@ -96,7 +92,3 @@ pub single-fits : (room : ℕ) (us : List Use) (bs : List Branch) → 1 ≤ room
 unfolding over
 single-fits room [] bs h s i = le-ltb room (length bs) (omega arith)
 single-fits room (u ∷ us) bs h s i = rw (le-ltb room (length bs) (omega arith)) (single-fits room us (step u bs) h (s .1) (single-step u bs (s .0) i))
-
--- And where each use has one, one branch stays one.
-pub single-stays : (us : List Use) (b : Branch) → Single us → Filled us → length (run us (b ∷ [])) ≡ 1
-single-stays us b s f = omega (arith, run-fits 1 us (b ∷ []) (single-fits 1 us (b ∷ []) (omega arith) s (omega arith)), never-empty us b [] f)

@@ -1,7 +1,7 @@
 -- White_Space, lowercase and vowels. 01, "From name to codes". Assumes nothing.
 use Prim.Native.Nat.{ℕ, _+_, _%_}
-use mathlib.Core.Bool.{Bool, true, false, cond, _&&_, _||_}
-use lib.Dec.{leb, ltb, eqb}
+use mathlib.Core.Bool.{Bool, cond, _&&_, _||_}
+use lib.Dec.{eqb}
 use Rattle.laws.specs.Lists.{between}
 
 -- 01: "the 25 White_Space characters: U+0009 to 000D, 0020, 0085, 00A0, 1680, 2000 to 200A, 2028, 2029, 202F, 205F, 3000."

@@ -7,8 +7,8 @@
 -- proofs/Exact.antt shows that each undoes the other. Assumes nothing.
 use Prim.Native.Nat.{ℕ, zero, suc, _+_, _-_, _*_, _/_, _%_}
 use mathlib.Core.Bool.{Bool, true, false, cond, _&&_, _||_}
-use mathlib.Core.List.{List, [], _∷_, _++_}
-use lib.Dec.{leb, ltb}
+use mathlib.Core.List.{List, [], _∷_}
+use lib.Dec.{leb}
 use Rattle.laws.specs.Lists.{between, cat}
 use Rattle.chars.specs.declared.Char.{Char}
 use Rattle.chars.specs.declared.Char.the-variants.{One, Bad, End}

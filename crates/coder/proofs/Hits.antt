@@ -1,15 +1,14 @@
 -- The search brings what 01's words bring: whatever fits stands in the group, and the first that fits is the longest. Assumes nothing.
-use mathlib.Core.Path.{_≡_, refl, sym, ap, ap₂, subst, _∙_}
-use mathlib.Core.Bool.{Bool, true, false, cond, _&&_, _||_, false≢true}
+use mathlib.Core.Path.{_≡_, refl, sym, ap, _∙_}
+use mathlib.Core.Bool.{Bool, true, false, cond, _||_, false≢true}
 use mathlib.Core.Option.{Option, none, some}
 use mathlib.Core.List.{List, [], _∷_}
 use Prim.Native.Nat.{ℕ}
-use lib.Dec.{eqb}
 use borrow.Author.Tests.{eq-eqb}
-use Rattle.laws.specs.Lists.{every, keep, begins}
+use Rattle.laws.specs.Lists.{every, keep}
 use Rattle.laws.proofs.Tests.{and-true}
 use Rattle.plate.specs.Plate.{Rule, goodRule, ordered, firstCode}
-use Rattle.coder.specs.Walk.{letters, startsWith, group, match, longest, Passed, matched, passed}
+use Rattle.coder.specs.Walk.{letters, startsWith, group, match, longest, matched, passed}
 use Rattle.coder.specs.Search.{Hit, hitFrom, brings}
 use Rattle.coder.specs.Search.Hit.{Taken, None}
 use Rattle.coder.proofs.Longest.{first, fits, first-match, first-is, fits-code}

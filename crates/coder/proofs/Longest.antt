@@ -1,23 +1,23 @@
 -- In a plate's order the first pattern that fits is the longest: rules of one first code point fall in byte length, and of two patterns that begin one
 -- text the shorter in characters is the shorter in bytes. Assumes nothing.
-use mathlib.Core.Path.{_≡_, refl, sym, ap, ap₂, subst, _∙_}
+use mathlib.Core.Path.{_≡_, refl, sym, ap, subst, _∙_}
 use mathlib.Core.Logic.{_⊎_, inl, inr, ⊎-elim}
-use mathlib.Core.Bool.{Bool, true, false, cond, _&&_, _||_, false≢true}
+use mathlib.Core.Bool.{Bool, true, false, cond, _&&_, false≢true}
 use mathlib.Core.Option.{Option, none, some}
-use mathlib.Core.List.{List, [], _∷_, _++_}
-use Prim.Native.Nat.{ℕ, zero, suc, _+_, _<_, _≤_}
+use mathlib.Core.List.{List, [], _∷_}
+use Prim.Native.Nat.{ℕ, _<_, _≤_}
 use native.Mathlib.Nat.{le-trans}
 use native.Mathlib.Omega.{arith}
 use borrow.Author.Tests.{ltb-true, leb-true, eqb-true, le-ltb, ltb-false}
 use lib.Dec.{ltb, leb, eqb}
 use lib.ListN.{length, length-append}
-use Rattle.laws.specs.Lists.{In, every, keep, begins, cat, between}
+use Rattle.laws.specs.Lists.{In, every, keep, begins, between}
 use Rattle.laws.proofs.Tests.{and-true, or-true, between-true}
 use Rattle.laws.proofs.Members.{in-keep, in-every}
 use Rattle.chars.specs.Utf8.{bytesOf, bytesOfAll, charsOf, charOf, codeOf, isText, charsFrom}
 use Rattle.chars.proofs.Exact.{decoded-text, bytes-count}
 use Rattle.plate.specs.Plate.{Rule, goodRule, goodPattern, goodField, nonzeroByte, firstCode, mayPrecede, ordered}
-use Rattle.coder.specs.Walk.{letters, startsWith, group, longer, longest, match}
+use Rattle.coder.specs.Walk.{letters, longer, longest, match}
 
 -- ---- patterns that begin one text
 

@@ -1,23 +1,21 @@
 -- Two texts whose items differ only in further alternatives build plates whose rules differ only so, and along every name such rules are used at the same
 -- places: which rule is used rests on patterns alone. Assumes nothing.
-use mathlib.Core.Path.{_≡_, refl, sym, ap, ap₂, subst, _∙_}
+use mathlib.Core.Path.{_≡_, refl, sym, ap, ap₂, subst}
 use mathlib.Core.Bool.{Bool, true, false, cond, _&&_, _||_, false≢true}
 use mathlib.Core.Option.{Option, none, some}
 use mathlib.Core.List.{List, [], _∷_, _++_}
 use Prim.Native.Nat.{ℕ, zero, suc, _-_}
-use native.Mathlib.Omega.{arith}
 use lib.Dec.{ltb, leb, eqb}
 use lib.ListN.{length, drop}
 use Rattle.laws.specs.Lists.{keep, begins}
 use Rattle.rule_text.specs.Items.{Item, lineBehind}
 use Rattle.rule_text.specs.Items.Item.{RuleItem, FoldingItem, LineEndItem, CommentItem, UnknownItem}
-use Rattle.rule_text.specs.Fields.{alternatives, fieldFault}
-use Rattle.plate.specs.Plate.{Folding, Rule, Plate, firstCode, mayPrecede}
+use Rattle.plate.specs.Plate.{Rule, firstCode, mayPrecede}
 use Rattle.plate.specs.Build.{Book, putRule, putFolding, ruleOf, foldingOf, enter, fault, Verdict, unless, verdict}
 use Rattle.plate.specs.Build.Verdict.{Faulty, Fine}
 use Rattle.branches.specs.Branches.{Use}
 use Rattle.branches.specs.Choice.{Wider}
-use Rattle.coder.specs.Walk.{letters, startsWith, group, longer, longest, match, field, forced, vowelFollows, Passed, matched, passed, walk, uses}
+use Rattle.coder.specs.Walk.{letters, startsWith, group, longer, longest, match, field, vowelFollows, Passed, matched, passed, walk, uses}
 use Rattle.coder.specs.Wider.{Further, WiderItem, WiderItems, WiderRule, WiderRules}
 
 -- ---- from items to rules

@@ -1,7 +1,7 @@
 -- What encode and list answer. 01, "Numbers that come back": "Encode and list check 10, 1, 2, 11, 12. [..] Encode and list answer number and count of
 -- codes, 0 on refusal. [..] After success the bytes behind the result are as lent; after refusal all are." Assumes nothing.
 use Prim.Native.Nat.{ℕ, _+_, _/_}
-use mathlib.Core.Bool.{Bool, true, false, cond}
+use mathlib.Core.Bool.{cond}
 use mathlib.Core.Option.{Option, none, some}
 use mathlib.Core.List.{List, [], _∷_, _++_, map}
 use lib.Dec.{ltb, leb}

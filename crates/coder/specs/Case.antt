@@ -2,14 +2,14 @@
 use Prim.Native.Nat.{ℕ, _-_}
 use mathlib.Core.Bool.{Bool, true, false, _&&_}
 use mathlib.Core.Option.{Option, none, some}
-use mathlib.Core.List.{List, [], _∷_, _++_}
+use mathlib.Core.List.{List, _++_}
 use lib.Dec.{eqb}
 use lib.ListN.{length, take, replicate}
 use Rattle.laws.specs.Lists.{same}
 use Rattle.rule_text.specs.Fields.{alternatives}
 use Rattle.plate.specs.Plate.{Plate}
 use Rattle.plate.specs.Read.{readPlate}
-use Rattle.plate.specs.Build.{Built, buildAnswer}
+use Rattle.plate.specs.Build.{buildAnswer}
 use Rattle.coder.specs.Answer.{Coded, listAnswer, encodeAnswer}
 
 -- Texts, names and codes are bytes; a flag is the folding flag; `lent` is how many bytes are lent to the call.

@@ -8,7 +8,7 @@ use Rattle.plate.specs.Read.{readPlate}
 use Rattle.branches.specs.Branches.{Use, codes}
 use Rattle.coder.specs.Name.{prepared}
 use Rattle.coder.specs.Walk.{uses}
-use Rattle.coder.specs.Answer.{Coded, listing, listAnswer}
+use Rattle.coder.specs.Answer.{listing, listAnswer}
 
 -- the uses of a plate's rules along a name
 abbrev pub usesIn : Plate → List ℕ → List Use

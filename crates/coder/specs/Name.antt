@@ -1,9 +1,9 @@
 -- From the bytes of a name to the characters that are coded. 01, "From name to codes". Assumes nothing.
 use Prim.Native.Nat.{ℕ}
-use mathlib.Core.Bool.{Bool, true, false, cond, not, _||_}
-use mathlib.Core.List.{List, [], _∷_, map}
+use mathlib.Core.Bool.{Bool, cond, not, _||_}
+use mathlib.Core.List.{List, map}
 use lib.Dec.{ltb}
-use Rattle.laws.specs.Lists.{every, keep}
+use Rattle.laws.specs.Lists.{keep}
 use Rattle.chars.specs.Utf8.{charsOf}
 use Rattle.chars.specs.Letters.{white, lowerOf}
 use Rattle.plate.specs.Plate.{Plate}

@@ -1,7 +1,7 @@
 -- The twelve starred examples of 01, "Examples to hold against it", from rule text to codes, as one statement over a list. Assumes nothing.
 use Prim.Native.Nat.{ℕ}
 use Prim.Native.String.{String}
-use mathlib.Core.Bool.{Bool, true, false, cond, _&&_}
+use mathlib.Core.Bool.{true}
 use mathlib.Core.List.{List, [], _∷_, _++_}
 use lib.Dec.{T}
 use Rattle.laws.specs.Lists.{every}

@@ -52,7 +52,7 @@ fn held(chars: [u32; 256], count: usize) -> Prepared
 }
 
 // The characters of a name, in one pass. A sequence that is not UTF-8 decides, though a character that is not allowed stood before it: 2 comes before 11.
-pub fn prepare(plate: &[u8], name: &[u8], t: &[u16; 384]) -> Prepared
+pub(crate) fn prepare(plate: &[u8], name: &[u8], t: &[u16; 384]) -> Prepared
     requires { ⌜ (acceptedIn edition1 (now plate) ≡ true) × (now t ≡ table) ⌝ }
     ensures { λ r. ⌜ (r ≡ preparedName (plateAt (edition1 .width) (now (plate .entry))) (now (name .entry))) × (r .count ≤ 256) ⌝ }
 {

@@ -100,7 +100,7 @@ fn walked(next: Branches, over: bool) -> Stepped
 }
 
 // The branches along a name; or that they are more than there is room for, "at the start or after some step".
-pub fn walk(plate: &[u8], name: &[u32], most: usize, room: usize) -> Stepped
+pub(crate) fn walk(plate: &[u8], name: &[u32], most: usize, room: usize) -> Stepped
     requires { ⌜ (acceptedIn edition1 (now plate) ≡ true) × (room ≤ 64) ⌝ }
     ensures { λ r. ⌜ Walked room (cutAll most (uses (plateAt (edition1 .width) (now (plate .entry)) .rules) (now (name .entry)))) r ⌝ }
 {

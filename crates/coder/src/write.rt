@@ -21,7 +21,7 @@ fn put(out: &mut [u8], digits: [u8; 6])
 }
 
 // "Codes are joined by `|`: code number k, from 0, is lent the buffer from byte 7k on."
-pub fn write(out: &mut [u8], bs: Branches)
+pub(crate) fn write(out: &mut [u8], bs: Branches)
     requires { ⌜ BranchesOk bs × (7 * bs .count ≤ length (now out) + 1) ⌝ }
     ensures { λ _. ⌜ now (out .exit) ≡ listing (map code (branchesOf bs)) (now (out .entry)) .buffer ⌝ }
 {

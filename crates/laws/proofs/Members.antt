@@ -1,7 +1,7 @@
 -- Facts on standing in a list: in one of two joined lists, in a list of images, among those that pass a test. Assumes nothing.
 use mathlib.Core.Path.{_≡_, refl, ap, _∙_}
 use mathlib.Core.Logic.{_⊎_, inl, inr}
-use mathlib.Core.Bool.{Bool, true, false, cond, _&&_}
+use mathlib.Core.Bool.{Bool, true, false, cond}
 use mathlib.Core.List.{List, [], _∷_, _++_, map}
 use Rattle.laws.specs.Lists.{In, every, keep}
 use Rattle.laws.proofs.Tests.{and-true}

@@ -2,11 +2,11 @@
 -- and the blank book is good: so the plate of the last book is good, and the bytes of a good plate are accepted and read back. Assumes nothing.
 use Prim.Native.Nat.{ℕ, zero, suc, _<_, _≤_}
 use mathlib.Core.Path.{_≡_, refl, ap, subst, _∙_}
-use mathlib.Core.Bool.{Bool, true, false, cond, _&&_}
+use mathlib.Core.Bool.{Bool, true, _&&_}
 use mathlib.Core.Option.{some}
 use mathlib.Core.List.{List, [], _∷_}
 use native.Mathlib.Omega.{arith}
-use borrow.Author.Tests.{ltb-true, ltb-false, leb-true, leb-false, eqb-false, lt-ltb, le-leb}
+use borrow.Author.Tests.{ltb-true, ltb-false, leb-true, lt-ltb, le-leb}
 use lib.Dec.{ltb, leb, eqb, lit<}
 use lib.ListN.{length, take, drop}
 use lib.Seq.{take-append-seam}
@@ -15,7 +15,7 @@ use Rattle.laws.proofs.Tests.{and-true, both-true, by-test, is-between}
 use Rattle.chars.specs.Utf8.{isText}
 use Rattle.rule_text.specs.Items.{Item, items, firstLine, lineBehind}
 use Rattle.rule_text.specs.Items.Item.{RuleItem, FoldingItem, LineEndItem, CommentItem, UnknownItem}
-use Rattle.rule_text.specs.Fields.{bar, onto, alternatives, isAlternative, fieldFault}
+use Rattle.rule_text.specs.Fields.{bar, onto, alternatives, fieldFault}
 use Rattle.rule_text.proofs.Clean.{Clean, AllClean, items-clean}
 use Rattle.plate.specs.Plate.{
   Folding,
@@ -35,30 +35,10 @@ use Rattle.plate.specs.Plate.{
 }
 use Rattle.plate.specs.Written.{plateBytes}
 use Rattle.plate.specs.Read.{acceptedIn, readPlate}
-use Rattle.plate.specs.Build.{
-  Book,
-  blank,
-  putRule,
-  putFolding,
-  ruleOf,
-  foldingOf,
-  enter,
-  when,
-  firstFault,
-  ruleFault,
-  fault,
-  Verdict,
-  unless,
-  verdict,
-  Built,
-  refusal,
-  answered,
-  nonzero,
-  buildAnswer,
-}
+use Rattle.plate.specs.Build.{Book, blank, putRule, putFolding, ruleOf, foldingOf, enter, ruleFault, fault, Verdict, unless, verdict, Built, refusal, answered, nonzero, buildAnswer}
 use Rattle.plate.specs.Build.Verdict.{Faulty, Fine}
 use Rattle.plate.proofs.Packed.{Bytes}
-use Rattle.plate.proofs.Faults.{no-fault, not-when}
+use Rattle.plate.proofs.Faults.{field-fine, not-when, clean}
 use Rattle.plate.proofs.Round.{edition1-reads, edition1-accepted}
 use Rattle.plate.proofs.Sorted.{put-ordered, put-every, put-length, put-rising, put-each}
 
@@ -75,25 +55,18 @@ one-alternative (c ∷ cs) =
     by-test (λ (l : List (List ℕ)). 1 ≤ length l) (eqb c bar) ([] ∷ alternatives cs) (onto c (alternatives cs)) (λ e. omega arith) (λ e. onto-one c (alternatives cs))
 
 field-good : (f : List ℕ) → fieldFault f ≡ 0 → goodField (alternatives f) ≡ true
-field-good f e = go (leb (length (alternatives f)) 8) (every isAlternative (alternatives f)) refl refl e
-  where
-    go : (few digits : Bool) → leb (length (alternatives f)) 8 ≡ few → every isAlternative (alternatives f) ≡ digits → _≡_ {A = ℕ} (cond few (cond digits 0 7) 6) 0
-        → goodField (alternatives f) ≡ true
-    go true true a b z = both-true (is-between 1 8 (length (alternatives f)) (one-alternative f) (leb-true (length (alternatives f)) 8 a)) b
-    go true false a b z = absurd (omega arith)
-    go false digits a b z = absurd (omega arith)
+field-good f e =
+    let fine = field-fine f e in both-true (is-between 1 8 (length (alternatives f)) (one-alternative f) (leb-true (length (alternatives f)) 8 (fine .0))) (fine .1)
 
 -- ---- a rule without fault is good
 
 rule-good : (p s v o : List ℕ) (n : ℕ) → (isText p ≡ true) × (every nonzeroByte p ≡ true) → ruleFault p s v o n ≡ 0 → (goodRule (ruleOf p s v o) ≡ true) × (n < 512)
 rule-good p s v o n c e =
-    let none = no-fault (when (eqb (length p) 0) 4 ∷ when (ltb 16 (length p)) 5 ∷ fieldFault s ∷ fieldFault v ∷ fieldFault o ∷ when (leb 512 n) 8 ∷ []) e in
-    let fields = none .1 .1 in
-    let filled = eqb-false (length p) 0 (not-when (eqb (length p) 0) 4 (lit< tt) (none .0)) in
-    let short = ltb-false 16 (length p) (not-when (ltb 16 (length p)) 5 (lit< tt) (none .1 .0)) in (
-      both-true (both-true (is-between 1 16 (length p) (omega arith) short) (both-true (c .1) (c .0)))
-          (both-true (field-good s (fields .0)) (both-true (field-good v (fields .1 .0)) (field-good o (fields .1 .1 .0)))),
-      leb-false 512 n (not-when (leb 512 n) 8 (lit< tt) (fields .1 .1 .1 .0)),
+    let k = clean p s v o n e in
+    let filled = k .filled in (
+      both-true (both-true (is-between 1 16 (length p) (omega arith) (k .short)) (both-true (c .1) (c .0)))
+          (both-true (field-good s (k .start)) (both-true (field-good v (k .vowel)) (field-good o (k .other)))),
+      k .few,
     )
 
 -- ---- an item that is clean and without fault keeps a good book good

@@ -9,14 +9,5 @@ pub mod Accepted
 pub mod Parts
 pub mod Only
 pub mod Sorted
-pub mod Bars
 pub mod Faults
-pub mod Inks
-pub mod Keys
-pub mod Measures
-pub mod Orders
-pub mod Replies
-pub mod Scripts
-pub mod Turns
-pub mod OnlyBuild
 pub mod Goods

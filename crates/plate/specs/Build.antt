@@ -1,7 +1,7 @@
 -- What build answers. 01, "Numbers that come back": "Build checks 1, then 2 (whole text), then items front to back, the first fault in the text deciding.
 -- Inside a rule: 4, 5, then the three fields left to right (6 before 7 in each field), then 8. Last 9." Assumes nothing.
 use Prim.Native.Nat.{ℕ, zero, suc}
-use mathlib.Core.Bool.{Bool, true, false, cond, _&&_}
+use mathlib.Core.Bool.{Bool, cond, _&&_}
 use mathlib.Core.List.{List, [], _∷_, _++_}
 use lib.Dec.{ltb, leb, eqb}
 use lib.ListN.{length, drop}
@@ -10,7 +10,7 @@ use Rattle.chars.specs.Utf8.{isText}
 use Rattle.rule_text.specs.Items.{Item, items, firstLine, lineBehind}
 use Rattle.rule_text.specs.Items.Item.{RuleItem, FoldingItem, LineEndItem, CommentItem, UnknownItem}
 use Rattle.rule_text.specs.Fields.{alternatives, fieldFault}
-use Rattle.plate.specs.Plate.{Folding, Rule, Plate, edition1, mostFoldings, mayPrecede}
+use Rattle.plate.specs.Plate.{Folding, Rule, edition1, mostFoldings, mayPrecede}
 use Rattle.plate.specs.Written.{plateBytes}
 
 -- ---- the book: what the items so far have said, in the plate's order

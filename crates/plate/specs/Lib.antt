@@ -7,8 +7,3 @@ pub mod Worked
 pub mod Answers
 pub mod Stands
 pub mod Field
-pub mod Outcome
-pub mod Pen
-pub mod Sort
-pub mod Survey
-pub mod Writing

@@ -2,7 +2,7 @@
 -- Reading never fails: past the end every bit is 0. What was read is judged afterwards, and `closed` refuses what ran past the end, stopped short or
 -- left fill. That these are exactly the bytes of good plates is proved: proofs/Round.antt, plate-reads and plate-exact. Assumes nothing.
 use Prim.Native.Nat.{ℕ, zero, suc, _+_, _-_, _*_, _/_, _%_}
-use mathlib.Core.Bool.{Bool, true, false, cond, _&&_}
+use mathlib.Core.Bool.{Bool, cond, _&&_}
 use mathlib.Core.Option.{Option, none, some}
 use mathlib.Core.List.{List, [], _∷_}
 use lib.Dec.{eqb}

@@ -1,11 +1,11 @@
 -- Worked plates, and bytes that are none, by computation. The third plate was made by a writer of its own, from 01's words. Assumes nothing.
 use Prim.Native.Nat.{ℕ, _-_}
 use mathlib.Core.Path.{_≡_, refl}
-use mathlib.Core.Bool.{Bool, true, false, cond, _&&_, not}
-use mathlib.Core.Option.{Option, none, some}
+use mathlib.Core.Bool.{Bool, true, false, _&&_, not}
+use mathlib.Core.Option.{some}
 use mathlib.Core.List.{List, [], _∷_, _++_}
 use lib.Dec.{T, eqb}
-use lib.ListN.{length, take, replicate}
+use lib.ListN.{length, replicate}
 use Rattle.laws.specs.Lists.{every, same}
 use Rattle.chars.specs.Utf8.{textFrom}
 use Rattle.chars.specs.Quoted.{bytes, lines}
@@ -13,7 +13,7 @@ use Rattle.rule_text.specs.Forms.{entry, quadruplet, folding, multilineComment,
 use Rattle.rule_text.specs.Items.{itemsFrom}
 use Rattle.rule_text.specs.Fields.{alternatives}
 use Rattle.plate.specs.Bits.{bit, numberAt}
-use Rattle.plate.specs.Plate.{Plate, Rule, edition1}
+use Rattle.plate.specs.Plate.{edition1}
 use Rattle.plate.specs.Read.{readPlate, acceptedIn}
 use Rattle.plate.specs.Build.{Built, buildAnswer, verdict, ruleFault}
 

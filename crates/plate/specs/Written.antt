@@ -1,11 +1,11 @@
 -- A plate's bits and bytes. 01, "The plate, bits most significant first". Assumes nothing.
 use Prim.Native.Nat.{ℕ, _-_}
-use mathlib.Core.Bool.{Bool, true, false, cond}
-use mathlib.Core.List.{List, [], _∷_, _++_}
+use mathlib.Core.Bool.{Bool, cond}
+use mathlib.Core.List.{List, _++_}
 use lib.ListN.{length}
 use Rattle.laws.specs.Lists.{cat}
 use Rattle.plate.specs.Bits.{bitsOf, pack}
-use Rattle.plate.specs.Plate.{Folding, Rule, Plate, Edition, edition1}
+use Rattle.plate.specs.Plate.{Folding, Rule, Plate, Edition}
 
 -- a list: how many in w bits, then one behind the other
 abbrev pub counted : {A : Type 0} → ℕ → (A → List ℕ) → List A → List ℕ

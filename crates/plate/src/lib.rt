@@ -1,14 +1,9 @@
-// The plate: its bits, which bytes are one, reading a rule or a folding at a bit place, building a plate from rule text.
+// The plate: its bits, which bytes are one, reading a rule or a folding at a bit place. What build writes stands in specs/ here, the code that writes it in the crate builder.
 pub mod bits; // bits.rt: the number that bits at a place write
 pub mod reader; // reader.rt: the bit reader
 pub mod pattern; // pattern.rt: a pattern's characters
 pub mod accept; // accept.rt: which bytes are a plate
 pub mod read; // read.rt: what an accepted plate says, part by part
-mod pen; // pen.rt: bits written one behind the other
-mod sort; // sort.rt: rules and foldings in the plate's order
-mod survey; // survey.rt: the items front to back, the first fault deciding
-mod write; // write.rt: what a text says, written as a plate's bits
-pub mod build; // build.rt: from rule text to a plate
 
 // The place behind what was accepted, or nowhere.
 pub enum Step {

@@ -7,10 +7,10 @@ use super::say::number;
 use super::say::sum;
 use super::say::word;
 use super::say::yes_or_no;
+use builder::Built;
+use builder::Fault;
+use builder::build;
 use plate::accept::accept;
-use plate::build::Built;
-use plate::build::Fault;
-use plate::build::build;
 
 // 01's three values.
 struct Answer {

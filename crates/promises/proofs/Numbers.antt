@@ -1,13 +1,13 @@
 -- Which numbers come back: each way out of the definitions is one of the table's, and each refusal hands the buffer back. Assumes nothing.
-use Prim.Native.Nat.{ℕ, zero, suc, _≤_, _<_}
-use mathlib.Core.Path.{_≡_, refl, sym, ap, subst, _∙_}
-use mathlib.Core.Logic.{_⊎_, inl, inr}
-use mathlib.Core.Bool.{Bool, true, false, cond, _&&_}
+use Prim.Native.Nat.{ℕ, zero, suc, _≤_}
+use mathlib.Core.Path.{refl}
+use mathlib.Core.Logic.{inl, inr}
+use mathlib.Core.Bool.{Bool, true, false, _&&_}
 use mathlib.Core.Option.{Option, none, some}
-use mathlib.Core.List.{List, [], _∷_, _++_, map}
+use mathlib.Core.List.{List, [], _∷_, map}
 use native.Mathlib.Omega.{arith}
 use lib.Dec.{ltb, leb, eqb}
-use lib.ListN.{length, drop}
+use lib.ListN.{length}
 use Rattle.laws.specs.Lists.{In, every}
 use Rattle.laws.proofs.Tests.{by-test}
 use Rattle.chars.specs.Utf8.{isText, charsOf}
@@ -17,7 +17,7 @@ use Rattle.rule_text.specs.Fields.{alternatives, isAlternative, fieldFault}
 use Rattle.plate.specs.Plate.{Plate, edition1, mostFoldings}
 use Rattle.plate.specs.Written.{plateBytes}
 use Rattle.plate.specs.Read.{readPlate}
-use Rattle.plate.specs.Build.{Book, blank, putFolding, foldingOf, enter, when, firstFault, ruleFault, fault, Verdict, unless, verdict, Built, refusal, delivered, answered, nonzero, buildAnswer}
+use Rattle.plate.specs.Build.{Book, blank, putFolding, foldingOf, enter, when, firstFault, fault, Verdict, unless, verdict, Built, refusal, delivered, answered, nonzero, buildAnswer}
 use Rattle.plate.specs.Build.Verdict.{Faulty, Fine}
 use Rattle.branches.specs.Branches.{Use, start, over, codes}
 use Rattle.branches.specs.Choice.{firstOnly}

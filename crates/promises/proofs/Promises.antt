@@ -1,8 +1,7 @@
 -- The three demands, proved: from the promises of the calls and the laws of the layers. Assumes nothing.
-use Prim.Native.Nat.{ℕ, _<_, _≤_}
+use Prim.Native.Nat.{ℕ}
 use mathlib.Core.Path.{_≡_, refl, sym, ap, subst, _∙_}
 use mathlib.Core.Bool.{Bool, true, false, cond, _&&_}
-use mathlib.Core.Option.{some}
 use mathlib.Core.List.{List, _++_}
 use native.Mathlib.Omega.{arith}
 use lib.Dec.{ltb}
@@ -12,23 +11,19 @@ use Rattle.chars.specs.Utf8.{isText}
 use Rattle.rule_text.specs.Items.{items, firstLine}
 use Rattle.plate.specs.Plate.{Plate, edition1}
 use Rattle.plate.specs.Written.{plateBytes}
-use Rattle.plate.specs.Read.{readPlate}
 use Rattle.plate.specs.Build as define
 use Rattle.plate.specs.Build.{Book, blank, Verdict, verdict, refusal, delivered, answered, nonzero, buildAnswer}
 use Rattle.plate.specs.Build.Verdict.{Faulty, Fine}
-use Rattle.plate.specs.Outcome.{told}
-use Rattle.plate.specs.declared.build.Built.{Built}
-use Rattle.plate.specs.declared.build.Built.the-variants as Built
-use Rattle.plate.proofs.Packed.{Bytes}
+use Rattle.builder.specs.Outcome.{told}
+use Rattle.builder.specs.declared.Built.{Built}
+use Rattle.builder.specs.declared.Built.the-variants as Built
 use Rattle.plate.proofs.Goods.{plateOf, build-good}
 use Rattle.plate.proofs.Round.{edition1-reads, edition1-exact}
 use Rattle.coder.specs.Answer as code
-use Rattle.coder.specs.Answer.{joined}
 use Rattle.coder.specs.Numbers.{numberOf, countOf, Tells}
 use Rattle.coder.specs.declared.Coded.{Coded}
-use Rattle.coder.specs.Given.{Given}
 use Rattle.coder.proofs.Demands.{gives, longer, choice-listed, listed-choice, first-given, encode-gives, code-kept, first-kept}
-use Rattle.promises.specs.Demands.{Refuses, Builds, Lists, buildNumbers, codeNumbers, Demand1, Demand2, Demand3a, Demand3b, Demand3c, Demand3d}
+use Rattle.promises.specs.Demands.{Refuses, buildNumbers, codeNumbers, Demand1, Demand2, Demand3a, Demand3b, Demand3c, Demand3d}
 use Rattle.promises.proofs.Numbers.{Small, verdict-small, build-refuses, list-refuses, encode-refuses}
 
 -- ---- demand 1

@@ -2,7 +2,6 @@
 -- afterwards `out` meet it holds of the code, which is proved to meet it. Nothing is defined here but names. Assumes nothing.
 use Prim.Native.Nat.{ℕ, _≤_}
 use mathlib.Core.Path.{_≡_}
-use mathlib.Core.Logic.{_⊎_}
 use mathlib.Core.Bool.{Bool, true}
 use mathlib.Core.Option.{some}
 use mathlib.Core.List.{List, [], _∷_, _++_}
@@ -11,12 +10,11 @@ use Rattle.laws.specs.Lists.{In}
 use Rattle.rule_text.specs.Items.{items, firstLine}
 use Rattle.plate.specs.Plate.{Plate, edition1, goodPlate}
 use Rattle.plate.specs.Written.{plateBytes}
-use Rattle.plate.specs.Read.{readPlate, acceptedIn}
-use Rattle.plate.specs.Build as define
+use Rattle.plate.specs.Read.{readPlate}
 use Rattle.plate.specs.Build.{Book, blank, verdict, buildAnswer}
 use Rattle.plate.specs.Build.Verdict.{Fine}
-use Rattle.plate.specs.Outcome.{told}
-use Rattle.plate.specs.declared.build.Built.{Built}
+use Rattle.builder.specs.Outcome.{told}
+use Rattle.builder.specs.declared.Built.{Built}
 use Rattle.plate.proofs.Packed.{Bytes}
 use Rattle.plate.proofs.Goods.{plateOf}
 use Rattle.branches.specs.Choice.{Chosen, yielded, firsts, Starts}
@@ -28,7 +26,7 @@ use Rattle.coder.specs.Wider.{WiderItems}
 
 -- ---- the promises of the public calls, as their contracts say them
 
--- plate::build::build(text, flag, out)
+-- builder::build(text, flag, out)
 abbrev pub Builds : List ℕ → Bool → List ℕ → Built → List ℕ → Type 0
 Builds text flag lent r out = told r out ≡ buildAnswer text flag lent
 

@@ -60,13 +60,6 @@ module _ (f : List ℕ) (at : ℕ) where
       let d : drop (suc u) (drop at f) ≡ drop (at + u + 1) f = drop-drop (suc u) at f ∙ ap (λ (n : ℕ). drop n f) {x = at + suc u} {y = at + u + 1} (omega arith) in
       split (drop at f) ∙ (λ i. take (e i) (drop at f) ∷ behind (count bar (drop at f)) (d i))
 
-  -- Behind the bar one bar less is left.
-  pub bars-behind : (k : ℕ) → count bar (drop at f) ≡ suc k → count bar (drop (barBehind f at + 1) f) ≡ k
-  bars-behind k e =
-      let n = ap length (split-at ∙ ap (λ (m : ℕ). cut f at (barBehind f at) ∷ behind m (drop (barBehind f at + 1) f)) e) in
-      let a = bars (drop at f) in
-      let b = bars (drop (barBehind f at + 1) f) in omega (arith, n, a, b, e)
-
 -- ---- the answer on a field, from its bars and digits
 
 module _ (l : List ℕ) (n : ℕ) (e : n ≡ count bar l) where

@@ -1,6 +1,6 @@
 -- The alternatives of a field, and what is wrong with it. 01, "Rule text, item by item" and "Numbers that come back". Assumes nothing.
 use Prim.Native.Nat.{ℕ}
-use mathlib.Core.Bool.{Bool, true, false, cond, _&&_}
+use mathlib.Core.Bool.{Bool, cond, _&&_}
 use mathlib.Core.List.{List, [], _∷_}
 use lib.Dec.{leb, eqb}
 use lib.ListN.{length}

@@ -1,8 +1,8 @@
 -- The four forms of an item, on the bytes that are left. 01, "Rule text, item by item".
 -- A form answers places, counted from the item's first byte: where its content starts and ends, and the place behind it; or that it does not fit.
 -- A byte past the end reads as 0, which no form asks for. Assumes nothing.
-use Prim.Native.Nat.{ℕ, zero, suc, _+_}
-use mathlib.Core.Bool.{Bool, true, false, cond, _&&_, _||_}
+use Prim.Native.Nat.{ℕ, suc, _+_}
+use mathlib.Core.Bool.{Bool, cond, _&&_, _||_}
 use mathlib.Core.List.{List, [], _∷_}
 use lib.Dec.{ltb, eqb}
 use lib.ListN.{length, getD, drop}

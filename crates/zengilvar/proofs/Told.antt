@@ -3,9 +3,9 @@ use Prim.Native.Nat.{ℕ}
 use mathlib.Core.Path.{_≡_, refl, ap, _∙_}
 use mathlib.Core.List.{List}
 use Rattle.plate.specs.Build as Build
-use Rattle.plate.specs.Outcome.{told}
-use Rattle.plate.specs.declared.build.Built.{Built}
-use Rattle.plate.specs.declared.build.Built.the-variants.{Plate, LongText, NotText, Faulty, ShortBuffer}
+use Rattle.builder.specs.Outcome.{told}
+use Rattle.builder.specs.declared.Built.{Built}
+use Rattle.builder.specs.declared.Built.the-variants.{Plate, LongText, NotText, Faulty, ShortBuffer}
 use Rattle.zengilvar.specs.Numbers.{Says, BuiltIs}
 use Rattle.zengilvar.specs.declared.DmBuilt.{DmBuilt}
 

@@ -4,8 +4,8 @@ use Prim.Native.Nat.{ℕ}
 use mathlib.Core.Path.{_≡_}
 use mathlib.Core.List.{List, []}
 use Rattle.plate.specs.Build as Build
-use Rattle.plate.specs.Outcome.{told}
-use Rattle.plate.specs.declared.build.Built.{Built}
+use Rattle.builder.specs.Outcome.{told}
+use Rattle.builder.specs.declared.Built.{Built}
 use Rattle.coder.specs.Answer as Answer
 use Rattle.coder.specs.Numbers.{numberOf, countOf}
 use Rattle.coder.specs.declared.Coded.{Coded}

@@ -1,15 +1,15 @@
 // The library that C and Rust link: build, encode and list with 01's numbers in place of enums, which C does not have. include/zengilvar.h declares it.
 ghost use Rattle.plate.specs.Build.{buildAnswer};
 ghost use Rattle.coder.specs.Answer.{listAnswer, encodeAnswer};
-ghost use Rattle.plate.specs.Survey.{numberOf};
+ghost use Rattle.builder.specs.Survey.{numberOf};
 ghost use Rattle.zengilvar.specs.Numbers.{Says, Counts, BuiltIs, CodedIs};
 ghost use mathlib.Core.Path.{_≡_};
+use builder::Built;
+use builder::Fault;
+use builder::build;
 use coder::Coded;
 use coder::answer::encode;
 use coder::answer::list;
-use plate::build::Built;
-use plate::build::Fault;
-use plate::build::build;
 
 // What dm_build answers.
 #[repr(C)]

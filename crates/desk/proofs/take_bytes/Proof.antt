@@ -2,7 +2,6 @@
 use Prim.Native.Nat.{_-_, _≤_}
 use mathlib.Core.Path.{_≡_, refl}
 use native.Mathlib.Omega.{arith}
-use borrow.Author.Needs.{needs}
 use lib.ListN.{length}
 use Rattle.desk.proofs.take_bytes.Statement.{statement}
 use Rattle.desk.proofs.take_bytes.Tie as tie

@@ -1,0 +1,10 @@
+pub mod Bars
+pub mod Inks
+pub mod Keys
+pub mod Orders
+pub mod Ways
+pub mod Measures
+pub mod Scripts
+pub mod Turns
+pub mod Replies
+pub mod Only

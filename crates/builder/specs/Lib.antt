@@ -1,0 +1,5 @@
+pub mod Pen
+pub mod Sort
+pub mod Survey
+pub mod Writing
+pub mod Outcome

@@ -1,0 +1,58 @@
+// From rule text to a plate. 01: "Build checks 1, then 2 (whole text), then items front to back, the first fault in the text deciding. [..] Last 9."
+mod pen; // pen.rt: bits written one behind the other
+mod sort; // sort.rt: rules and foldings in the plate's order
+mod survey; // survey.rt: the items front to back, the first fault deciding
+mod write; // write.rt: what a text says, written as a plate's bits
+
+ghost use mathlib.Core.Path.{_≡_};
+ghost use Rattle.plate.specs.Build.{buildAnswer};
+ghost use Rattle.builder.specs.Outcome.{told};
+use chars::Checked;
+use chars::utf8::check_text;
+use survey::Surveyed;
+use write::write_plate;
+
+// What is wrong with an item: 01's refusals 3 to 8.
+pub enum Fault {
+    NotRecognised,
+    EmptyPattern,
+    LongPattern,
+    ManyAlternatives,
+    NotDigits,
+    TooMany,
+}
+
+// What build answers: the plate's length in bytes, or why there is none.
+pub enum Built {
+    Plate(usize),
+    LongText,
+    NotText,
+    Faulty(Fault, usize),
+    ShortBuffer,
+}
+
+// The plate of a rule text, with a folding flag, into `out`. A refused call changes no byte.
+pub fn build(text: &[u8], flag: bool, out: &mut [u8]) -> Built
+    ensures { λ r. ⌜ told r (now (out .exit)) ≡ buildAnswer (now (text .entry)) flag (now (out .entry)) ⌝ }
+{
+    if 65536 < text.len() {
+        return Built::LongText;
+    }
+    let Checked::Text(holds_zero) = check_text(text) else {
+        return Built::NotText;
+    };
+    if holds_zero {
+        return Built::NotText;
+    }
+    let mut keys = [0u64; 512];
+    let mut foldings = [0u64; 128];
+    match survey::survey(text, &mut keys, &mut foldings) {
+        Surveyed::Faulty(fault, line) => Built::Faulty(fault, line),
+        Surveyed::Fine(tally) => {
+            if out.len() < (32 + 42 * tally.foldings + tally.bits + 7) / 8 {
+                return Built::ShortBuffer;
+            }
+            Built::Plate(write_plate(out, text, &keys, &foldings, tally, flag))
+        }
+    }
+}
