@@ -1,24 +1,23 @@
 -- Demand 3 about whole calls: list's answer rests on the plate and the name alone as long as there is room, and its codes are those of the uses, for which
 -- the laws on branches stand. Assumes nothing.
-use Prim.Native.Nat.{ℕ, zero, suc, _+_, _/_, _<_, _≤_}
-use mathlib.Core.Path.{_≡_, refl, sym, ap, ap₂, subst, _∙_}
-use mathlib.Core.Bool.{Bool, true, false, cond, _&&_, false≢true}
+use Prim.Native.Nat.{ℕ, _+_, _/_, _<_, _≤_}
+use mathlib.Core.Path.{_≡_, refl, sym, ap, subst, _∙_}
+use mathlib.Core.Bool.{Bool, true, false, cond, false≢true}
 use mathlib.Core.Option.{Option, none, some}
-use mathlib.Core.List.{List, [], _∷_, _++_, map}
+use mathlib.Core.List.{List, [], _∷_, map}
 use native.Mathlib.Omega.{arith}
-use borrow.Author.Tests.{leb-true, leb-false, le-leb, lt-leb, le-ltb}
+use borrow.Author.Tests.{leb-true, leb-false, le-ltb}
 use lib.Dec.{ltb, leb}
-use lib.ListN.{length, take, drop}
+use lib.ListN.{length, take}
 use Rattle.laws.specs.Lists.{In, every}
 use Rattle.laws.proofs.Tests.{and-true, by-test, between-true}
 use Rattle.chars.specs.Utf8.{isText, charsOf}
 use Rattle.rule_text.specs.Items.{items, firstLine}
-use Rattle.plate.specs.Plate.{Rule, Plate, edition1, goodRule, ordered}
-use Rattle.plate.specs.Read.{plateAt, acceptedIn, readPlate, readIn}
-use Rattle.plate.specs.Build.{Book, blank, Verdict, verdict, Built, buildAnswer}
-use Rattle.plate.specs.Build.Verdict.{Faulty, Fine}
+use Rattle.plate.specs.Plate.{Plate, edition1, goodRule, ordered}
+use Rattle.plate.specs.Read.{plateAt, acceptedIn, readPlate}
+use Rattle.plate.specs.Build.{Book, blank, Built, buildAnswer}
 use Rattle.plate.proofs.Packed.{Bytes}
-use Rattle.plate.proofs.Goods.{plateOf, Accepted, build-accepted}
+use Rattle.plate.proofs.Goods.{plateOf, build-accepted}
 use Rattle.branches.specs.Branches.{Use, start, over, codes}
 use Rattle.branches.specs.Choice.{Chosen, yielded, Filled, firsts, firstOnly, Wider, Starts}
 use Rattle.branches.proofs.Choice.{chosen-listed, listed-chosen, first-listed, firsts-alone, wider-listed, wider-first}
@@ -55,16 +54,22 @@ answered call (some p) name lent e =
     let t = passed-tests (ltb 256 (length name)) (isText name) (every allowed (charsOf name)) (call (usesIn p name) lent) lent e in
     (p, refl, λ call′ lent′. named-fine call′ p name lent′ (t .0) (t .1) (t .2))
 
--- list answers 0 only where the branches fit
+-- An answer of 0 is no refusal 12.
+not-12 : (t : Bool) (x : Coded) (lent : List ℕ) → cond t (refusal 12 lent) x .number ≡ 0 → t ≡ false
+not-12 true x lent e = absurd (omega arith)
+not-12 false x lent e = refl
+
+-- List answers 0 only where the branches fit.
 fits : (us : List Use) (lent : List ℕ) → listed us lent .number ≡ 0 → over (room lent) us start ≡ false
-fits us lent e = go (over (room lent) us start) e
-  where
-    go : (b : Bool) → cond b (refusal 12 lent) (listing (codes us) lent) .number ≡ 0 → b ≡ false
-    go true e = absurd (omega arith)
-    go false e = refl
+fits us lent e = not-12 (over (room lent) us start) (listing (codes us) lent) lent e
 
 listed-fits : (us : List Use) (lent : List ℕ) → over (room lent) us start ≡ false → listed us lent ≡ listing (codes us) lent
 listed-fits us lent e = ap (λ (b : Bool). cond b (refusal 12 lent) (listing (codes us) lent)) e
+
+-- In a buffer that holds a code encode gives that of the first alternatives, alone.
+encoded-alone : (us : List Use) (lent : List ℕ) → Filled us → ltb (length lent) 6 ≡ false → encoded us lent ≡ listing (yielded us (firsts us) ∷ []) lent
+encoded-alone us lent f e =
+    ap (λ (b : Bool). cond b (refusal 12 lent) (listing (codes (map firstOnly us)) lent)) e ∙ ap (λ (l : List (List ℕ)). listing l lent) (firsts-alone us f)
 
 -- A longer buffer has no less room.
 room-grows : (lent lent′ : List ℕ) → length lent ≤ length lent′ → room lent ≤ room lent′
@@ -75,6 +80,40 @@ room-grows lent lent′ h =
     by-test (λ (m : ℕ). 64 ≤ m) (leb 64 ((length lent′ + 1) / 7)) 64 ((length lent′ + 1) / 7) (λ f. omega arith) (λ f. let b = leb-false 64 ((length lent′ + 1) / 7) f in absurd (omega arith)))
     (λ e. let a = leb-false 64 ((length lent + 1) / 7) e in
     by-test (λ (m : ℕ). (length lent + 1) / 7 ≤ m) (leb 64 ((length lent′ + 1) / 7)) 64 ((length lent′ + 1) / 7) (λ f. omega arith) (λ f. omega arith))
+
+-- ---- an accepted plate
+
+-- the same plate
+some-inj : (x y : Plate) → some x ≡ some y → x ≡ y
+some-inj x y e = ap (λ (o : Option Plate). held o) e
+  where
+    held : Option Plate → Plate
+    held (some q) = q
+    held none = x
+
+-- The plate is a good one, so each use has an alternative.
+filled : (plate name : List ℕ) (p : Plate) → readPlate plate ≡ some p → Filled (usesIn p name)
+filled plate name p read = all-filled (usesIn p name) (uses-good (p .rules) (good .0) (good .1) (prepared p name))
+  where
+    some-alternative : (u : Use) (more : List Use) → every goodUse (u ∷ more) ≡ true → (0 < length (u .alternatives)) × (every goodUse more ≡ true)
+    some-alternative u more h = let b = and-true (goodUse u) (every goodUse more) h in (between-true 1 8 (length (u .alternatives)) (b .0) .0, b .1)
+
+    all-filled : (vs : List Use) → every goodUse vs ≡ true → Filled vs
+    all-filled [] h = tt
+    all-filled (u ∷ more) h = let b = some-alternative u more h in (b .0, all-filled more (b .1))
+
+    go : (t : Bool) → acceptedIn edition1 plate ≡ t → cond t (some (plateAt (edition1 .width) plate)) none ≡ some p → (every goodRule (p .rules) ≡ true) × (ordered (p .rules) ≡ true)
+    go true a e =
+        let q = some-inj (plateAt (edition1 .width) plate) p e in
+        (subst (λ (x : Plate). every goodRule (x .rules) ≡ true) q (rules-good plate a), subst (λ (x : Plate). ordered (x .rules) ≡ true) q (rules-ordered plate a))
+    go false a e = absurd (false≢true (ap is-some e))
+      where
+        is-some : Option Plate → Bool
+        is-some (some x) = true
+        is-some none = false
+
+    good : (every goodRule (p .rules) ≡ true) × (ordered (p .rules) ≡ true)
+    good = go (acceptedIn edition1 plate) refl read
 
 -- ---- what is given
 
@@ -88,20 +127,22 @@ module _ (plate name : List ℕ) where
       let f = fits us lent (ap (λ (x : Coded). x .number) (sym (a .2 listed lent)) ∙ e) in
       (a .0, codes us, record { read = a .1; all = refl; written = a .2 listed lent ∙ listed-fits us lent f })
 
+  -- Encode answers 0 exactly by giving the code of the first alternatives.
+  pub encodes : (lent : List ℕ) → encodeAnswer plate name lent .number ≡ 0
+      → (p : Plate) × (readPlate plate ≡ some p) × (encodeAnswer plate name lent ≡ listing (yielded (usesIn p name) (firsts (usesIn p name)) ∷ []) lent)
+  unfolding encodeAnswer
+  encodes lent e =
+      let a = answered encoded (readPlate plate) name lent e in
+      let us = usesIn (a .0) name in
+      let h = not-12 (ltb (length lent) 6) (listing (codes (map firstOnly us)) lent) lent (ap (λ (x : Coded). x .number) (sym (a .2 encoded lent)) ∙ e) in
+      (a .0, a .1, a .2 encoded lent ∙ encoded-alone us lent (filled plate name (a .0) (a .1)) h)
+
   module _ (lent : List ℕ) (p : Plate) (cs : List (List ℕ)) (g : Given plate name lent p cs) where
     number-0 : listAnswer plate name lent .number ≡ 0
     number-0 = ap (λ (x : Coded). x .number) (g .written)
 
     abbrev us : List Use
     us = usesIn p name
-
-    -- the same plate
-    some-inj : (x y : Plate) → some x ≡ some y → x ≡ y
-    some-inj x y e = ap (λ (o : Option Plate). held o) e
-      where
-        held : Option Plate → Plate
-        held (some q) = q
-        held none = x
 
     -- d) A list given once is given again in any longer buffer.
     pub longer : (lent′ : List ℕ) → length lent ≤ length lent′ → Given plate name lent′ p cs
@@ -125,42 +166,16 @@ module _ (plate name : List ℕ) where
     pub listed-choice : (k : List ℕ) → In k cs → (choice : List (List ℕ)) × Chosen us choice × (k ≡ yielded us choice)
     listed-choice k i = listed-chosen us k (subst (In k) (g .all) i)
 
-    -- The plate is a good one, so each use has an alternative.
-    filled : Filled us
-    filled = all-filled us (uses-good (p .rules) (good .0) (good .1) (prepared p name))
-      where
-        some-alternative : (u : Use) (more : List Use) → every goodUse (u ∷ more) ≡ true → (0 < length (u .alternatives)) × (every goodUse more ≡ true)
-        some-alternative u more h = let b = and-true (goodUse u) (every goodUse more) h in (between-true 1 8 (length (u .alternatives)) (b .0) .0, b .1)
-
-        all-filled : (vs : List Use) → every goodUse vs ≡ true → Filled vs
-        all-filled [] h = tt
-        all-filled (u ∷ more) h = let b = some-alternative u more h in (b .0, all-filled more (b .1))
-
-        go : (t : Bool) → acceptedIn edition1 plate ≡ t → cond t (some (plateAt (edition1 .width) plate)) none ≡ some p → (every goodRule (p .rules) ≡ true) × (ordered (p .rules) ≡ true)
-        go true a e =
-            let q = some-inj (plateAt (edition1 .width) plate) p e in
-            (subst (λ (x : Plate). every goodRule (x .rules) ≡ true) q (rules-good plate a), subst (λ (x : Plate). ordered (x .rules) ≡ true) q (rules-ordered plate a))
-        go false a e = absurd (false≢true (ap is-some e))
-          where
-            is-some : Option Plate → Bool
-            is-some (some x) = true
-            is-some none = false
-
-        good : (every goodRule (p .rules) ≡ true) × (ordered (p .rules) ≡ true)
-        good = go (acceptedIn edition1 plate) refl (g .read)
-
     -- b) The unbranched one first: it is what encode gives, alone, in any buffer of six bytes or more.
     pub first-given : Starts (yielded us (firsts us)) cs
-    first-given = subst (Starts (yielded us (firsts us))) (sym (g .all)) (first-listed us filled)
+    first-given = subst (Starts (yielded us (firsts us))) (sym (g .all)) (first-listed us (filled plate name p (g .read)))
 
     pub encode-gives : (lent′ : List ℕ) → 6 ≤ length lent′ → encodeAnswer plate name lent′ ≡ listing (yielded us (firsts us) ∷ []) lent′
     unfolding listAnswer encodeAnswer
     encode-gives lent′ h =
         let a = answered listed (readPlate plate) name lent number-0 in
         let same = some-inj (a .0) p (sym (a .1) ∙ g .read) in
-        a .2 encoded lent′ ∙ ap (λ (q : Plate). encoded (usesIn q name) lent′) same
-        ∙ ap (λ (b : Bool). cond b (refusal 12 lent′) (listing (codes (map firstOnly us)) lent′)) (le-ltb (length lent′) 6 h)
-        ∙ ap (λ (l : List (List ℕ)). listing l lent′) (firsts-alone us filled)
+        a .2 encoded lent′ ∙ ap (λ (q : Plate). encoded (usesIn q name) lent′) same ∙ encoded-alone us lent′ (filled plate name p (g .read)) (le-ltb (length lent′) 6 h)
 
 -- ---- c) Further alternatives behind a rule's keep every earlier code and the first.
 
@@ -185,8 +200,8 @@ module _ (text text′ : List ℕ) (flag : Bool) (room₁ room₂ : List ℕ) (b
         let w = books-wider firstLine firstLine blank blank (items text) (items text′) wider (refl, tt) (a .0) (a′ .0) (a .1) (a′ .1) in (
           a .0,
           a′ .0,
-          some-inj plate₁ name lent p cs g p (plateOf flag (a .0)) (sym (g .read) ∙ a .3),
-          some-inj plate₂ name lent′ p′ cs′ g′ p′ (plateOf flag (a′ .0)) (sym (g′ .read) ∙ a′ .3),
+          some-inj p (plateOf flag (a .0)) (sym (g .read) ∙ a .3),
+          some-inj p′ (plateOf flag (a′ .0)) (sym (g′ .read) ∙ a′ .3),
           w .0,
           w .1,
         )
@@ -209,7 +224,7 @@ module _ (text text′ : List ℕ) (flag : Bool) (room₁ room₂ : List ℕ) (b
     pub first-kept : (k : List ℕ) → Starts k cs → Starts k cs′
     first-kept k s =
         let us = usesIn p name in
-        let f = filled plate₁ name lent p cs g in
+        let f = filled plate₁ name p (g .read) in
         let same = head-same (first-listed us f) (subst (Starts k) (g .all) s) in
         subst (λ (x : List ℕ). Starts x cs′) same (subst (Starts (yielded us (firsts us))) (sym (g′ .all)) (wider-first us (usesIn p′ name) wider-uses f))
       where

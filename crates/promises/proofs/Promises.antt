@@ -22,7 +22,7 @@ use Rattle.plate.proofs.Round.{edition1-reads, edition1-exact}
 use Rattle.coder.specs.Answer as code
 use Rattle.coder.specs.Numbers.{numberOf, countOf, Tells}
 use Rattle.coder.specs.declared.Coded.{Coded}
-use Rattle.coder.proofs.Demands.{gives, longer, choice-listed, listed-choice, first-given, encode-gives, code-kept, first-kept}
+use Rattle.coder.proofs.Demands.{gives, encodes, longer, choice-listed, listed-choice, first-given, encode-gives, code-kept, first-kept}
 use Rattle.promises.specs.Demands.{Refuses, buildNumbers, codeNumbers, Demand1, Demand2, Demand3a, Demand3b, Demand3c, Demand3d}
 use Rattle.promises.proofs.Numbers.{Small, verdict-small, build-refuses, list-refuses, encode-refuses}
 
@@ -87,6 +87,7 @@ built-whole text flag lent e = go (ltb 65536 (length text)) (isText text && ever
     go false false c h = absurd (omega arith)
 
 pub demand-2 : Demand2
+unfolding code.joined
 demand-2 = (
   (λ text flag lent r out bytes e n.
       let w = built-whole text flag lent (ap (λ (a : define.Built). a .number) (sym e) ∙ n) in
@@ -104,6 +105,10 @@ demand-2 = (
       let g = gives plate name lent (sym (t .0) ∙ n) in
       let w = g .2 .written in
       (g .0, g .1, g .2, t .1 ∙ ap (λ (a : code.Coded). a .count) w, t .2 ∙ ap (λ (a : code.Coded). a .buffer) w)),
+  (λ plate name lent r out t n.
+      let g = encodes plate name lent (sym (t .0) ∙ n) in
+      let w = g .2 in
+      (g .0, g .1, t .1 ∙ ap (λ (a : code.Coded). a .count) w, t .2 ∙ ap (λ (a : code.Coded). a .buffer) w)),
 )
 
 -- ---- demand 3

@@ -70,6 +70,9 @@ Demand2 =
     × ((s : List ℕ) (p : Plate) → Bytes s → readPlate s ≡ some p → (s ≡ plateBytes edition1 p) × (goodPlate edition1 p ≡ true))
     × ((plate name lent : List ℕ) (r : Coded) (out : List ℕ) → Lists plate name lent r out → numberOf r ≡ 0
     → (p : Plate) × (cs : List (List ℕ)) × Given plate name lent p cs × (countOf r ≡ length cs) × (out ≡ joined cs ++ drop (length (joined cs)) lent))
+    × ((plate name lent : List ℕ) (r : Coded) (out : List ℕ) → Encodes plate name lent r out → numberOf r ≡ 0
+    → (p : Plate) × (readPlate plate ≡ some p) × (countOf r ≡ 1)
+    × (let code = yielded (usesIn p name) (firsts (usesIn p name)) in out ≡ code ++ drop (length code) lent))
 
 -- ---- demand 3: "More never loses a match." Each part speaks of a list that was given: plate, name, codes.
 
