@@ -1,10 +1,10 @@
--- `code_arguments` ends: one argument a turn. Assumes nothing.
+-- `names::code_arguments` ends: one argument a turn. Assumes nothing.
 use mathlib.Core.Path.{refl}
 use Prim.Native.Nat.{_-_, _≤_}
 use native.Mathlib.Omega.{arith}
 use borrow.Author.Needs.{needs}
-use Rattle.dm.proofs.code_arguments.Statement.{statement}
-use Rattle.dm.proofs.code_arguments.Tie as tie
+use Rattle.dm.proofs.names.code_arguments.Statement.{statement}
+use Rattle.dm.proofs.names.code_arguments.Tie as tie
 
 abbrev Inv-loop : tie.InvT-loop
 Inv-loop plate first all end several i₀ i = i ≤ end
