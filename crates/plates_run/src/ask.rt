@@ -1,22 +1,25 @@
 // A text is built and the answer written: number, line, length, whether the bytes behind the plate (all of them, if there is none) are as lent, and whether
 // what was written is accepted.
-use super::lent::is_as_lent;
-use super::lent::mark_all;
-use super::say::bytes;
-use super::say::number;
-use super::say::sum;
-use super::say::word;
-use super::say::yes_or_no;
+ghost use mathlib.Core.Path.{_≡_};
+ghost use lib.ListN.{length};
+use super::bytes::hex;
+use super::bytes::sum;
 use builder::Built;
 use builder::Fault;
 use builder::build;
 use plate::accept::accept;
+use trial::lent::is_lent_from;
+use trial::lent::lend;
+use trial::say::labelled;
+use trial::say::newline;
+use trial::say::word;
+use trial::say::yes_or_no;
 
-// 01's three values.
-struct Answer {
-    number: usize,
-    line: usize,
-    length: usize,
+// One byte more than the largest plate has.
+pub(crate) fn plate_buffer() -> [u8; 51429]
+    ensures { λ r. ⌜ 51429 ≡ length r ⌝ }
+{
+    [0; 51429]
 }
 
 fn number_of(fault: Fault) -> usize {
@@ -30,87 +33,106 @@ fn number_of(fault: Fault) -> usize {
     }
 }
 
-fn refusal(number: usize, line: usize) -> Answer {
-    Answer {
-        number,
-        line,
-        length: 0,
-    }
+// 01's three values.
+fn show_values(number: usize, line: usize, length: usize) {
+    labelled(b" -> ", number);
+    labelled(b" line ", line);
+    labelled(b" length ", length);
 }
 
-fn answer_of(built: Built) -> Answer {
+fn show_built(built: Built) {
     match built {
-        Built::Plate(length) => Answer {
-            number: 0,
-            line: 0,
-            length,
-        },
-        Built::LongText => refusal(1, 0),
-        Built::NotText => refusal(2, 0),
-        Built::Faulty(fault, line) => refusal(number_of(fault), line),
-        Built::ShortBuffer => refusal(9, 0),
+        Built::Plate(length) => show_values(0, 0, length),
+        Built::LongText => show_values(1, 0, 0),
+        Built::NotText => show_values(2, 0, 0),
+        Built::Faulty(fault, line) => show_values(number_of(fault), line, 0),
+        Built::ShortBuffer => show_values(9, 0, 0),
     }
 }
 
-fn show_answer(answer: Answer) {
-    word(b" -> ");
-    number(answer.number);
-    word(b" line ");
-    number(answer.line);
-    word(b" length ");
-    number(answer.length);
+fn length_of(built: Built) -> usize {
+    match built {
+        Built::Plate(length) => length,
+        _ => 0,
+    }
 }
 
-// The plate's length, 0 where there is none.
-pub(crate) fn ask(name: &[u8], text: &[u8], flag: bool, buffer: &mut [u8]) -> usize {
-    mark_all(buffer);
-    let answer = answer_of(build(text, flag, buffer));
+fn show_head(name: &[u8], text: usize, buffer: usize) {
     word(name);
-    word(b"; ");
-    number(text.len());
-    word(b" into ");
-    number(buffer.len());
-    show_answer(answer);
+    labelled(b"; ", text);
+    labelled(b" into ", buffer);
+}
+
+fn show_rest(buffer: &[u8], n: usize) {
     yes_or_no(
-        is_as_lent(buffer, answer.length),
+        is_lent_from(buffer, n),
         b", rest as lent",
         b", REST CHANGED",
     );
-    answer.length
 }
 
-// The answer alone.
-pub(crate) fn show(name: &[u8], text: &[u8], buffer: &mut [u8]) {
-    ask(name, text, true, buffer);
-    word(b"\n");
+// The plate's length, 0 where there is none.
+fn ask(name: &[u8], text: &[u8], flag: bool, buffer: &mut [u8]) -> usize {
+    lend(buffer);
+    let built = build(text, flag, buffer);
+    let n = length_of(built);
+    show_head(name, text.len(), buffer.len());
+    show_built(built);
+    show_rest(buffer, n);
+    n
+}
+
+// The answer alone, with n bytes lent.
+fn show_into(name: &[u8], text: &[u8], n: usize) {
+    let mut buffer = plate_buffer();
+    if n <= 51429 {
+        ask(name, text, true, &mut buffer[0..n]);
+    }
+    newline();
+}
+
+pub(crate) fn show(name: &[u8], text: &[u8]) {
+    show_into(name, text, 51429);
 }
 
 fn show_accepted(plate: &[u8]) {
     yes_or_no(accept(plate), b", accepted", b", NOT ACCEPTED");
 }
 
-// The answer and the plate, byte by byte.
-pub(crate) fn show_plate(name: &[u8], text: &[u8], flag: bool, buffer: &mut [u8]) {
-    let n = ask(name, text, flag, buffer);
-    if buffer.len() < n {
-        return;
-    }
-    show_accepted(&buffer[0..n]);
+fn show_bytes(plate: &[u8]) {
+    show_accepted(plate);
     word(b"\n ");
-    bytes(&buffer[0..n]);
+    hex(plate);
 }
 
-// The answer and the plate's sum; then a buffer of just its length, and one of a byte less.
-pub(crate) fn show_room(name: &[u8], text: &[u8], buffer: &mut [u8]) {
-    let n = ask(name, text, true, buffer);
-    if buffer.len() < n {
-        return;
+// The answer and the plate, byte by byte.
+pub(crate) fn show_plate(name: &[u8], text: &[u8], flag: bool) {
+    let mut buffer = plate_buffer();
+    let n = ask(name, text, flag, &mut buffer);
+    if n <= 51429 {
+        show_bytes(&buffer[0..n]);
     }
-    show_accepted(&buffer[0..n]);
-    sum(&buffer[0..n]);
-    if n == 0 {
-        return;
+}
+
+// A buffer of just the plate's length, and one of a byte less.
+fn show_edge(text: &[u8], n: usize) {
+    if 0 < n {
+        show_into(b"  just so many", text, n);
+        show_into(b"  one less", text, n - 1);
     }
-    show(b"  just so many", text, &mut buffer[0..n]);
-    show(b"  one less", text, &mut buffer[0..n - 1]);
+}
+
+fn show_sum(plate: &[u8]) {
+    show_accepted(plate);
+    sum(plate);
+}
+
+// The answer and the plate's sum; then buffers at the edge.
+pub(crate) fn show_room(name: &[u8], text: &[u8]) {
+    let mut buffer = plate_buffer();
+    let n = ask(name, text, true, &mut buffer);
+    if n <= 51429 {
+        show_sum(&buffer[0..n]);
+        show_edge(text, n);
+    }
 }

@@ -1,6 +1,6 @@
 // Runs `item` over rule texts and `parse_branch` over fields, and writes what they answer: 01's forms, and the texts where two forms fit or one nearly does.
 // For each text its items: where each begins, how many bytes it takes, and what it is; the places of a rule's four parts are counted from the item's first byte.
-// The file stdout was worked out by hand from 01, "Rule text, item by item", by counting bytes, before the program was run.
+// The cases stand in data/texts.txt. The file stdout was worked out by hand from 01, "Rule text, item by item", by counting bytes, before the program was run.
 ghost use Prim.Native.Nat.{_≤_};
 ghost use lib.ListN.{length};
 use libc::STDOUT_FILENO;
@@ -8,14 +8,14 @@ use rule_text::Alternatives;
 use rule_text::Entry;
 use rule_text::field::parse_branch;
 use rule_text::item::item;
-
-fn word(s: &[u8]) {
-    io::write_all(STDOUT_FILENO, s);
-}
-
-fn number(n: usize) {
-    io::print_decimal(STDOUT_FILENO, n as u64);
-}
+use trial::case::bytes_of;
+use trial::lines::end_of;
+use trial::lines::letter_of;
+use trial::say::fault;
+use trial::say::labelled;
+use trial::say::newline;
+use trial::say::number;
+use trial::say::word;
 
 // Newline, CR and tab by name, every other byte as it is.
 fn byte(x: u8) {
@@ -31,24 +31,19 @@ fn text_line(s: &[u8]) {
     for i in 0..s.len() {
         byte(s[i]);
     }
-    word(b"\n");
+    newline();
 }
 
 // Where an item begins, how many bytes it takes, and its form.
 fn form(at: usize, n: usize, name: &[u8]) {
-    word(b"  at ");
-    number(at);
-    word(b" takes ");
-    number(n);
-    word(b": ");
+    labelled(b"  at ", at);
+    labelled(b" takes ", n);
     word(name);
 }
 
 fn span(start: usize, end: usize) {
-    word(b" ");
-    number(start);
-    word(b"..");
-    number(end);
+    labelled(b" ", start);
+    labelled(b"..", end);
 }
 
 fn spans(start: usize, end: usize, start2: usize, end2: usize) {
@@ -61,15 +56,28 @@ fn code_point(c: u32) {
     io::print_hex(STDOUT_FILENO, c as u64, 4);
 }
 
-fn pair(key: u32, target: u32) {
+fn rule(at: usize, n: usize) {
+    form(at, n, b": rule");
+}
+
+fn folding(at: usize, n: usize, key: u32, target: u32) {
+    form(at, n, b": folding");
     code_point(key);
     word(b" to");
     code_point(target);
 }
 
+fn line_end(at: usize, n: usize) {
+    form(at, n, b": line end");
+}
+
+fn block_comment(at: usize, n: usize, newlines: usize) {
+    form(at, n, b": block comment, newlines ");
+    number(newlines);
+}
+
 fn unknown(at: usize) {
-    word(b"  at ");
-    number(at);
+    labelled(b"  at ", at);
     word(b": not recognised");
 }
 
@@ -89,23 +97,21 @@ fn show_item(rest: &[u8], at: usize) -> usize
             other_end,
             next,
         } => {
-            form(at, next, b"rule");
+            rule(at, next);
             spans(pattern, pattern_end, start, start_end);
             spans(vowel, vowel_end, other, other_end);
             next
         }
         Entry::Folding { key, target, next } => {
-            form(at, next, b"folding");
-            pair(key, target);
+            folding(at, next, key, target);
             next
         }
         Entry::LineEnd { next } => {
-            form(at, next, b"line end");
+            line_end(at, next);
             next
         }
         Entry::Comment { newlines, next } => {
-            form(at, next, b"block comment, newlines ");
-            number(newlines);
+            block_comment(at, next, newlines);
             next
         }
         Entry::Unknown => {
@@ -120,7 +126,7 @@ fn show(text: &[u8]) {
     let mut at: usize = 0;
     while at < text.len() {
         let n = show_item(&text[at..], at);
-        word(b"\n");
+        newline();
         if n == 0 {
             return;
         }
@@ -128,83 +134,57 @@ fn show(text: &[u8]) {
     }
 }
 
+fn show_alternatives(found: Alternatives) {
+    match found {
+        Alternatives::Many(n) => labelled(b"  alternatives ", n),
+        Alternatives::TooMany => labelled(b"  refusal ", 6),
+        Alternatives::NotDigits => labelled(b"  refusal ", 7),
+    }
+    newline();
+}
+
 fn show_field(field: &[u8]) {
     word(b"field ");
     text_line(field);
-    match parse_branch(field) {
-        Alternatives::Many(n) => {
-            word(b"  alternatives ");
-            number(n);
-        }
-        Alternatives::TooMany => word(b"  refusal 6"),
-        Alternatives::NotDigits => word(b"  refusal 7"),
+    show_alternatives(parse_branch(field));
+}
+
+// The case of a line, on its bytes.
+fn run(line: &[u8], bytes: &[u8]) {
+    match letter_of(line) {
+        b't' => show(bytes),
+        b'f' => show_field(bytes),
+        _ => fault(line),
     }
-    word(b"\n");
 }
 
-// Two forms fit: the first in 01's order is taken.
-fn two_fit() {
-    show(b"\"=x//\" \"1\" \"1\" \"1\"");
-    show(b"\n=x");
-    show(b" =x");
-    show(b"\"=\"");
-    show(b"\"=\" \"\" \"\" \"\"");
+fn run_line(line: &[u8], bytes: &mut [u8]) {
+    if letter_of(line) == b'#' {
+        return;
+    }
+    let n = bytes_of(line, bytes);
+    if bytes.len() < n {
+        fault(line);
+        return;
+    }
+    run(line, &bytes[0..n]);
 }
 
-fn rules() {
-    show(b"\"\\\"\" \"1\" \"1\" \"1\"");
-    show(b"\"\\\" \"1\" \"1\" \"1\"");
-    show(b"\"a\" \"\\\"\" \"\" \"\"\n");
-    show(b"\"a\\\"\" \"\" \"\" \"\"");
-    show(b"\"a\nb\" \"1\" \"\" \"\"\n");
-    show(b"\"a \"0\" \"\" \"\"\n\"b\" \"0\" \"\" \"\"\n");
-    show(b"\"a\" \t\"0\"  \"\"\t\"\" \n");
-    show(b"\"a\"\"0\" \"\" \"\"\n");
-    show(b" \"a\" \"0\" \"\" \"\"\n");
-    show(b"\"a\" \"0\" \"\" \"\"");
-    show(b"\"a\" \"0\" \"\" \"\"\r");
-    show(b"\"a\" \"0\" \"\" \"\"\r\n");
-}
-
-fn foldings() {
-    show(b"a=\r\n");
-    show(b"a=\n");
-    show(b"a=\nb=c");
-    show(b"a=b\r");
-    show(b"a=\r");
-    show(b"a=//");
-    show(b"a=///");
-    show(b"a= ");
-    show(b"// c\n=x");
-}
-
-fn comments() {
-    show(b" \t// c\r\na=b // d");
-    show(b"/*/");
-    show(b"/*/ */");
-    show(b"/**/*/");
-    show(b" /* */");
-    show(b"/* x\r\ny\n*/ // z\n\n");
-    show(b"/* */\nx");
-    show(b"/");
+fn run_lines(text: &[u8], bytes: &mut [u8]) {
+    let mut at: usize = 0;
+    while at < text.len() {
+        let end = end_of(text, at, b'\n');
+        run_line(&text[at..end], bytes);
+        if end == text.len() {
+            return;
+        }
+        at = end + 1;
+    }
 }
 
 fn main() {
-    show(b"\"a\" \"0\" \"\" \"4|5\" // a rule\r\n\n\xC3\xA0=a\n/* 1\n2 */\n?");
-    show(b"");
-    two_fit();
-    rules();
-    foldings();
-    comments();
-    show_field(b"");
-    show_field(b"4|");
-    show_field(b"|");
-    show_field(b"|||||||");
-    show_field(b"||||||||");
-    show_field(b"x||||||||");
-    show_field(b"x|||||||");
-    show_field(b"123456|0");
-    show_field(b"0|1234567");
-    show_field(b"0|/");
-    show_field(b"0|:");
+    let mut text = io::large_buffer();
+    let n = trial::file::read(b"texts.txt", &mut text);
+    let mut bytes = io::buffer();
+    run_lines(&text[0..n], &mut bytes);
 }

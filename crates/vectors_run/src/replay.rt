@@ -1,43 +1,36 @@
 // Running one answer of the list again.
-use super::fields::bytes_at;
-use super::fields::field_start;
-use super::fields::is_hex_at;
+use super::fields::hex_at;
 use super::fields::is_none;
-use super::fields::number_at;
-use super::fields::space_count;
 use coder::Coded;
 use coder::answer::encode;
 use coder::answer::list;
+use trial::lent::is_lent_from;
+use trial::lent::lend;
+use trial::lines::field_start;
+use trial::lines::number_at;
 
-// The byte that is lent at a place: neither 0 nor ASCII, and another at the next place, so that a byte that is moved is seen too.
-fn lent_byte(i: usize) -> u8 {
-    128 + (i % 97) as u8
-}
-
-fn lend(out: &mut [u8]) {
-    for i in 0..out.len() {
-        out[i] = lent_byte(i);
-    }
-}
-
-// What must stand at a place of the buffer afterwards: the codes, and behind them what was lent.
-fn wanted(codes: &[u8], i: usize) -> u8 {
-    if i < codes.len() {
-        return codes[i];
-    }
-    lent_byte(i)
-}
-
-fn is_wanted(codes: &[u8], out: &[u8]) -> bool {
-    for i in 0..out.len() {
-        if out[i] != wanted(codes, i) {
+// Whether bytes begin with others.
+fn begins(s: &[u8], front: &[u8]) -> bool {
+    for i in 0..front.len() {
+        if s.len() <= i {
+            return false;
+        }
+        if s[i] != front[i] {
             return false;
         }
     }
-    codes.len() <= out.len()
+    true
 }
 
-// Whether the buffer holds the codes of a line and is otherwise as lent. A line that says nothing of its codes is malformed.
+// Whether the buffer holds the codes, and behind them what was lent.
+fn holds(out: &[u8], codes: &[u8]) -> bool {
+    if !begins(out, codes) {
+        return false;
+    }
+    is_lent_from(out, codes.len())
+}
+
+// Whether the buffer holds the codes of a line, which are all that is left of it, and is otherwise as lent. A line that says nothing of its codes is malformed.
 fn is_written(line: &[u8], out: &[u8]) -> bool {
     let start = field_start(line, 5);
     let codes = &line[start..];
@@ -45,9 +38,9 @@ fn is_written(line: &[u8], out: &[u8]) -> bool {
         return false;
     }
     if is_none(codes) {
-        return is_wanted(&[], out);
+        return is_lent_from(out, 0);
     }
-    is_wanted(codes, out)
+    holds(out, codes)
 }
 
 // 01's number for an answer.
@@ -70,20 +63,15 @@ fn count_of(coded: Coded) -> usize {
     }
 }
 
-// The call of a line, by its letter, on its name. A whole file fits the buffer for the name, so no name is cut.
-fn call(letter: u8, line: &[u8], plate: &[u8], lent: &mut [u8]) -> Coded {
-    let mut name = io::large_buffer();
-    let n = bytes_at(line, 1, &mut name);
+// The call that a line's letter says.
+fn ask(letter: u8, plate: &[u8], name: &[u8], lent: &mut [u8]) -> Coded {
     if letter == b'e' {
-        return encode(plate, &name[0..n], lent);
+        return encode(plate, name, lent);
     }
-    list(plate, &name[0..n], lent)
+    list(plate, name, lent)
 }
 
-// Whether a line's call gives its answer again, in a buffer of its length.
-fn is_answered(letter: u8, line: &[u8], plate: &[u8], lent: &mut [u8]) -> bool {
-    lend(lent);
-    let coded = call(letter, line, plate, lent);
+fn is_answer(line: &[u8], coded: Coded, lent: &[u8]) -> bool {
     if number_of(coded) != number_at(line, 3) {
         return false;
     }
@@ -93,17 +81,28 @@ fn is_answered(letter: u8, line: &[u8], plate: &[u8], lent: &mut [u8]) -> bool {
     is_written(line, lent)
 }
 
-// Whether a line has six fields, a name and a length of buffer that can be lent, and its answer comes again.
-pub fn comes_again(letter: u8, line: &[u8], plate: &[u8], out: &mut [u8]) -> bool {
-    if space_count(line) != 5 {
-        return false;
-    }
-    if !is_hex_at(line, 1) {
-        return false;
-    }
+fn is_answered(letter: u8, line: &[u8], plate: &[u8], name: &[u8], lent: &mut [u8]) -> bool {
+    lend(lent);
+    let coded = ask(letter, plate, name, lent);
+    is_answer(line, coded, lent)
+}
+
+// The call with the bytes lent that the line says.
+fn is_answered_in(letter: u8, line: &[u8], plate: &[u8], name: &[u8]) -> bool {
+    let mut out = io::buffer();
     let n = number_at(line, 2);
-    if out.len() < n {
+    if 4096 < n {
         return false;
     }
-    is_answered(letter, line, plate, &mut out[0..n])
+    is_answered(letter, line, plate, name, &mut out[0..n])
+}
+
+// Whether a line's call gives its answer again. A whole file fits the buffer for the name.
+pub(crate) fn comes_again(letter: u8, line: &[u8], plate: &[u8]) -> bool {
+    let mut name = io::large_buffer();
+    let n = hex_at(line, 1, &mut name);
+    if 65536 < n {
+        return false;
+    }
+    is_answered_in(letter, line, plate, &name[0..n])
 }

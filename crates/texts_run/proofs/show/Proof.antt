@@ -1,18 +1,17 @@
 -- `show` ends: each turn passes the bytes of an item, or stops where none are taken. Assumes nothing.
-use mathlib.Core.Path.{refl}
-use Prim.Native.Nat.{_-_, _≤_}
-use native.Mathlib.Omega.{arith}
 use borrow.Author.Needs.{needs}
+use native.Mathlib.Omega.{arith}
 use lib.ListN.{length}
+use Prim.Native.Nat.{_-_, _≤_}
 use Rattle.laws.proofs.Parts.{lent-length}
 use Rattle.texts_run.proofs.show.Statement.{statement}
 use Rattle.texts_run.proofs.show.Tie as tie
 
 abbrev Inv-loop : tie.InvT-loop
-Inv-loop text at₀ t4 at = at ≤ length text
+Inv-loop text at₀ at = at ≤ length text
 
 abbrev μ-loop : tie.MeasureT-loop
-μ-loop text at₀ t4 at = length text - at
+μ-loop text at₀ at = length text - at
 
 text-line-requires : tie.Need-text-line-requires Inv-loop μ-loop
 text-line-requires c κs = search needs
@@ -32,29 +31,20 @@ part-show-item-end c = search needs
 show-item-requires : tie.Need-show-item-requires Inv-loop μ-loop
 show-item-requires c κs = search needs
 
-slice-aggregate-word : tie.Need-slice-aggregate-word Inv-loop μ-loop
-slice-aggregate-word c = refl
-
-word-requires : tie.Need-word-requires Inv-loop μ-loop
-word-requires c κs = search needs
+newline-requires : tie.Need-newline-requires Inv-loop μ-loop
+newline-requires c κs = search needs
 
 returns : tie.Need-returns Inv-loop μ-loop
 returns c = search needs
 
 add-at : tie.Need-add-at Inv-loop μ-loop
-add-at c =
-    let at = c .before .before .before .before .before .before .loop .at in
-    let n = lent-length at (c .before .before .before .before .before .before .before .before .before .args .text .now) in omega arith
+add-at c = omega (arith, lent-length (c .before .before .before .before .before .loop .at) (c .before .before .before .before .before .before .before .before .args .text .now))
 
 loop-less : tie.Need-loop-less Inv-loop μ-loop
-loop-less c =
-    let at = c .before .before .before .before .before .before .loop .at in
-    let n = lent-length at (c .before .before .before .before .before .before .before .before .before .args .text .now) in omega arith
+loop-less c = omega (arith, lent-length (c .before .before .before .before .before .loop .at) (c .before .before .before .before .before .before .before .before .args .text .now))
 
 loop-again : tie.Need-loop-again Inv-loop μ-loop
-loop-again c =
-    let at = c .before .before .before .before .before .before .loop .at in
-    let n = lent-length at (c .before .before .before .before .before .before .before .before .before .args .text .now) in omega arith
+loop-again c = omega (arith, lent-length (c .before .before .before .before .before .loop .at) (c .before .before .before .before .before .before .before .before .args .text .now))
 
 returns-2 : tie.Need-returns-2 Inv-loop μ-loop
 returns-2 c = search needs
@@ -71,8 +61,7 @@ show-spec =
     part-show-item-start
     part-show-item-end
     show-item-requires
-    slice-aggregate-word
-    word-requires
+    newline-requires
     returns
     add-at
     loop-less

@@ -1,8 +1,8 @@
 -- `show_item` meets its contract. In each arm `item` promises that the item lies within the rest. Assumes nothing.
+use borrow.Author.Needs.{needs}
 use lib.ListN.{length}
 use Rattle.laws.proofs.Parts.{known}
 use Rattle.rule_text.specs.Answers.{Lies}
-use borrow.Author.Needs.{needs}
 use Rattle.texts_run.proofs.show_item.Statement.{statement}
 use Rattle.texts_run.proofs.show_item.Tie as tie
 
@@ -12,11 +12,8 @@ item-requires c κs = search needs
 enum-known-pattern : tie.Need-enum-known-pattern
 enum-known-pattern c = search needs
 
-slice-aggregate-form : tie.Need-slice-aggregate-form
-slice-aggregate-form c = search needs
-
-form-requires : tie.Need-form-requires
-form-requires c κs = search needs
+rule-requires : tie.Need-rule-requires
+rule-requires c κs = search needs
 
 spans-requires : tie.Need-spans-requires
 spans-requires c κs = search needs
@@ -27,35 +24,20 @@ spans-requires-2 c κs = search needs
 enum-known-key : tie.Need-enum-known-key
 enum-known-key c = search needs
 
-slice-aggregate-form-2 : tie.Need-slice-aggregate-form-2
-slice-aggregate-form-2 c = search needs
-
-form-requires-2 : tie.Need-form-requires-2
-form-requires-2 c κs = search needs
-
-pair-requires : tie.Need-pair-requires
-pair-requires c κs = search needs
+folding-requires : tie.Need-folding-requires
+folding-requires c κs = search needs
 
 enum-known-next : tie.Need-enum-known-next
 enum-known-next c = search needs
 
-slice-aggregate-form-3 : tie.Need-slice-aggregate-form-3
-slice-aggregate-form-3 c = search needs
-
-form-requires-3 : tie.Need-form-requires-3
-form-requires-3 c κs = search needs
+line-end-requires : tie.Need-line-end-requires
+line-end-requires c κs = search needs
 
 enum-known-newlines : tie.Need-enum-known-newlines
 enum-known-newlines c = search needs
 
-slice-aggregate-form-4 : tie.Need-slice-aggregate-form-4
-slice-aggregate-form-4 c = search needs
-
-form-requires-4 : tie.Need-form-requires-4
-form-requires-4 c κs = search needs
-
-number-requires : tie.Need-number-requires
-number-requires c κs = search needs
+block-comment-requires : tie.Need-block-comment-requires
+block-comment-requires c κs = search needs
 
 enum-told : tie.Need-enum-told
 enum-told c = search needs
@@ -64,16 +46,16 @@ unknown-requires : tie.Need-unknown-requires
 unknown-requires c κs = search needs
 
 returns : tie.Need-returns
-returns c = known (Lies (length (c .before .before .before .before .before .before .before .before .before .args .rest .now))) (c .before .before .before .before .before .before .before .item .ensures) (c .before .before .before .before .before .pattern .given .1) .1 .8
+returns c = known (Lies (length (c .before .before .before .before .before .before .before .before .args .rest .now))) (c .before .before .before .before .before .before .item .ensures) (c .before .before .before .before .pattern .given .1) .1 .8
 
 returns-2 : tie.Need-returns-2
-returns-2 c = known (Lies (length (c .before .before .before .before .before .before .before .before .args .rest .now))) (c .before .before .before .before .before .before .item .ensures) (c .before .before .before .before .key .given .1) .1 .0
+returns-2 c = known (Lies (length (c .before .before .before .before .before .before .args .rest .now))) (c .before .before .before .before .item .ensures) (c .before .before .key .given .1) .1 .0
 
 returns-3 : tie.Need-returns-3
-returns-3 c = known (Lies (length (c .before .before .before .before .before .before .before .args .rest .now))) (c .before .before .before .before .before .item .ensures) (c .before .before .before .next .given .1) .1 .0
+returns-3 c = known (Lies (length (c .before .before .before .before .before .before .args .rest .now))) (c .before .before .before .before .item .ensures) (c .before .before .next .given .1) .1 .0
 
 returns-4 : tie.Need-returns-4
-returns-4 c = known (Lies (length (c .before .before .before .before .before .before .before .before .args .rest .now))) (c .before .before .before .before .before .before .item .ensures) (c .before .before .before .before .newlines .given .1) .1 .1
+returns-4 c = known (Lies (length (c .before .before .before .before .before .before .args .rest .now))) (c .before .before .before .before .item .ensures) (c .before .before .newlines .given .1) .1 .1
 
 returns-5 : tie.Need-returns-5
 returns-5 c = search needs
@@ -84,21 +66,15 @@ show-item-spec =
     (tie.spec
     item-requires
     enum-known-pattern
-    slice-aggregate-form
-    form-requires
+    rule-requires
     spans-requires
     spans-requires-2
     enum-known-key
-    slice-aggregate-form-2
-    form-requires-2
-    pair-requires
+    folding-requires
     enum-known-next
-    slice-aggregate-form-3
-    form-requires-3
+    line-end-requires
     enum-known-newlines
-    slice-aggregate-form-4
-    form-requires-4
-    number-requires
+    block-comment-requires
     enum-told
     unknown-requires
     returns

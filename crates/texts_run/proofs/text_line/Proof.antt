@@ -1,17 +1,16 @@
 -- `text_line` ends: one byte a turn. Assumes nothing.
-use mathlib.Core.Path.{refl}
-use Prim.Native.Nat.{_-_, _≤_}
-use native.Mathlib.Omega.{arith}
 use borrow.Author.Needs.{needs}
+use native.Mathlib.Omega.{arith}
 use lib.ListN.{length}
+use Prim.Native.Nat.{_-_, _≤_}
 use Rattle.texts_run.proofs.text_line.Statement.{statement}
 use Rattle.texts_run.proofs.text_line.Tie as tie
 
 abbrev Inv-loop : tie.InvT-loop
-Inv-loop s i₀ t3 i-end i = i ≤ length s
+Inv-loop s i₀ i-end i = i ≤ length s
 
 abbrev μ-loop : tie.MeasureT-loop
-μ-loop s i₀ t3 i-end i = length s - i
+μ-loop s i₀ i-end i = length s - i
 
 loop-holds : tie.Need-loop-holds Inv-loop μ-loop
 loop-holds c = omega arith
@@ -31,11 +30,8 @@ loop-less c = omega arith
 loop-again : tie.Need-loop-again Inv-loop μ-loop
 loop-again c = omega arith
 
-slice-aggregate-word : tie.Need-slice-aggregate-word Inv-loop μ-loop
-slice-aggregate-word c = refl
-
-word-requires : tie.Need-word-requires Inv-loop μ-loop
-word-requires c κs = search needs
+newline-requires : tie.Need-newline-requires Inv-loop μ-loop
+newline-requires c κs = search needs
 
 returns : tie.Need-returns Inv-loop μ-loop
 returns c = search needs
@@ -52,6 +48,5 @@ text-line-spec =
     add-i
     loop-less
     loop-again
-    slice-aggregate-word
-    word-requires
+    newline-requires
     returns)

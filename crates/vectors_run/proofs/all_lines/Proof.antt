@@ -1,24 +1,17 @@
--- `all_lines` ends: each turn passes a line. The present plate is a part of its buffer, and no more lines are counted than bytes. Assumes nothing.
+-- `all_lines` ends: each turn passes a line, and counts no more than that. Assumes nothing.
 use borrow.Author.Needs.{needs}
 use native.Mathlib.Omega.{arith}
 use lib.ListN.{length}
-use Prim.Native.Nat.{_≤_, _-_}
+use Prim.Native.Nat.{_-_, _≤_}
 use mathlib.Core.Path.{_≡_}
 use Rattle.vectors_run.proofs.all_lines.Statement.{statement}
 use Rattle.vectors_run.proofs.all_lines.Tie as tie
 
 abbrev Inv-loop : tie.InvT-loop
-Inv-loop path text plate₀ out₀ t₀ at₀ plate out t at =
-    (at ≤ length text)
-    × (length plate ≡ length plate₀)
-    × (length out ≡ length out₀)
-    × (t .plate ≤ length plate₀)
-    × (t .answers ≤ t .lines)
-    × (t .differ ≤ t .lines)
-    × (t .lines ≤ at)
+Inv-loop text plate₀ t₀ at₀ plate t at = (at ≤ length text) × (length plate ≡ length plate₀) × (t .answers ≤ at) × (t .differ ≤ at)
 
 abbrev μ-loop : tie.MeasureT-loop
-μ-loop path text plate₀ out₀ t₀ at₀ plate out t at = length text - at
+μ-loop text plate₀ t₀ at₀ plate t at = length text - at
 
 loop-holds : tie.Need-loop-holds Inv-loop μ-loop
 loop-holds c = omega arith
@@ -41,9 +34,6 @@ one-line-requires c κs = omega arith
 same-length : tie.Need-same-length Inv-loop μ-loop
 same-length c = omega arith
 
-same-length-2 : tie.Need-same-length-2 Inv-loop μ-loop
-same-length-2 c = omega arith
-
 returns : tie.Need-returns Inv-loop μ-loop
 returns c = search needs
 
@@ -56,11 +46,8 @@ loop-less c = omega arith
 loop-again : tie.Need-loop-again Inv-loop μ-loop
 loop-again c = omega arith
 
-same-length-3 : tie.Need-same-length-3 Inv-loop μ-loop
-same-length-3 c = omega arith
-
-same-length-4 : tie.Need-same-length-4 Inv-loop μ-loop
-same-length-4 c = omega arith
+same-length-2 : tie.Need-same-length-2 Inv-loop μ-loop
+same-length-2 c = omega arith
 
 returns-2 : tie.Need-returns-2 Inv-loop μ-loop
 returns-2 c = search needs
@@ -78,11 +65,9 @@ all-lines-spec =
     part-one-line-end
     one-line-requires
     same-length
-    same-length-2
     returns
     add-at
     loop-less
     loop-again
-    same-length-3
-    same-length-4
+    same-length-2
     returns-2)

@@ -1,13 +1,10 @@
-use mathlib.Core.Path.{_≡_, refl}
-use Prim.Native.Nat.{_+_, _*_, _-_, _≤_, _<_}
+-- `put_foldings` meets its contract: 42 bits a turn. Assumes nothing.
 use native.Mathlib.Omega.{arith}
-use borrow.Author.Needs.{needs}
 use lib.ListN.{length}
+use Prim.Native.Nat.{_+_, _*_, _-_, _≤_}
+use mathlib.Core.Path.{_≡_}
 use Rattle.plates_run.proofs.hand.put_foldings.Statement.{statement}
 use Rattle.plates_run.proofs.hand.put_foldings.Tie as tie
-use Rattle.plates_run.proofs.hand.put_foldings.Reads as reads
-use Rattle.plates_run.proofs.hand.put_foldings.Lts as lts
-use Rattle.plates_run.proofs.hand.put.Reads as put-reads
 
 abbrev Inv-loop : tie.InvT-loop
 Inv-loop plate₀ at n end₀ k₀ plate end k = (k ≤ n) × (end ≡ at + 42 * k) × (length plate ≡ length plate₀)
@@ -15,41 +12,35 @@ Inv-loop plate₀ at n end₀ k₀ plate end k = (k ≤ n) × (end ≡ at + 42 *
 abbrev μ-loop : tie.MeasureT-loop
 μ-loop plate₀ at n end₀ k₀ plate end k = n - k
 
--- src/hand.rt:49:5
 loop-holds : tie.Need-loop-holds Inv-loop μ-loop
-loop-holds c = (omega arith, omega arith, omega arith)
+loop-holds c = omega arith
 
--- src/hand.rt:50:42
 add-put : tie.Need-add-put Inv-loop μ-loop
 add-put c = omega arith
 
--- src/hand.rt:50:13
+mul-put : tie.Need-mul-put Inv-loop μ-loop
+mul-put c = omega arith
+
+add-put-2 : tie.Need-add-put-2 Inv-loop μ-loop
+add-put-2 c = omega arith
+
 put-requires : tie.Need-put-requires Inv-loop μ-loop
-put-requires c κs = search needs
+put-requires c κs = omega arith
 
--- src/hand.rt:51:9
-put-requires-2 : tie.Need-put-requires-2 Inv-loop μ-loop
-put-requires-2 c κs = search needs
-
--- src/hand.rt:49:9
 add-k : tie.Need-add-k Inv-loop μ-loop
 add-k c = omega arith
 
--- src/hand.rt:49:5
 loop-less : tie.Need-loop-less Inv-loop μ-loop
 loop-less c = omega arith
 
--- src/hand.rt:49:5
 loop-again : tie.Need-loop-again Inv-loop μ-loop
-loop-again c = (omega arith, omega arith, omega arith)
+loop-again c = omega arith
 
--- src/hand.rt:44:1
 same-length : tie.Need-same-length Inv-loop μ-loop
 same-length c = omega arith
 
--- src/hand.rt:44:1
 returns : tie.Need-returns Inv-loop μ-loop
-returns c = search needs
+returns c = omega arith
 
 pub put-foldings-spec : {M : Type 1} → statement M
 put-foldings-spec =
@@ -59,8 +50,9 @@ put-foldings-spec =
     μ-loop
     loop-holds
     add-put
+    mul-put
+    add-put-2
     put-requires
-    put-requires-2
     add-k
     loop-less
     loop-again

@@ -1,0 +1,73 @@
+-- `lay_times` meets its contract: the bytes laid lie within the buffer, whose length stays. Assumes nothing.
+use borrow.Author.Needs.{needs}
+use native.Mathlib.Omega.{arith}
+use lib.ListN.{length}
+use Prim.Native.Nat.{_-_, _≤_}
+use mathlib.Core.Path.{_≡_}
+use Rattle.plates_run.proofs.cases.lay_times.Statement.{statement}
+use Rattle.plates_run.proofs.cases.lay_times.Tie as tie
+
+abbrev Inv-loop : tie.InvT-loop
+Inv-loop line text₀ at from to end₀ k₀ text end k = (end ≤ length text₀) × (length text ≡ length text₀)
+
+abbrev μ-loop : tie.MeasureT-loop
+μ-loop line text₀ at from to end₀ k₀ text end k = to - k
+
+number-at-requires : tie.Need-number-at-requires Inv-loop μ-loop
+number-at-requires c κs = search needs
+
+number-at-requires-2 : tie.Need-number-at-requires-2 Inv-loop μ-loop
+number-at-requires-2 c κs = search needs
+
+loop-holds : tie.Need-loop-holds Inv-loop μ-loop
+loop-holds c = omega arith
+
+sub-lay-counted : tie.Need-sub-lay-counted Inv-loop μ-loop
+sub-lay-counted c = omega arith
+
+part-lay-counted-start : tie.Need-part-lay-counted-start Inv-loop μ-loop
+part-lay-counted-start c = omega arith
+
+part-lay-counted-end : tie.Need-part-lay-counted-end Inv-loop μ-loop
+part-lay-counted-end c = omega arith
+
+lay-counted-requires : tie.Need-lay-counted-requires Inv-loop μ-loop
+lay-counted-requires c κs = search needs
+
+add-end : tie.Need-add-end Inv-loop μ-loop
+add-end c = omega arith
+
+add-k : tie.Need-add-k Inv-loop μ-loop
+add-k c = omega arith
+
+loop-less : tie.Need-loop-less Inv-loop μ-loop
+loop-less c = omega arith
+
+loop-again : tie.Need-loop-again Inv-loop μ-loop
+loop-again c = omega arith
+
+same-length : tie.Need-same-length Inv-loop μ-loop
+same-length c = omega arith
+
+returns : tie.Need-returns Inv-loop μ-loop
+returns c = omega arith
+
+pub lay-times-spec : {M : Type 1} → statement M
+lay-times-spec =
+    tie.close
+    (tie.spec
+    Inv-loop
+    μ-loop
+    number-at-requires
+    number-at-requires-2
+    loop-holds
+    sub-lay-counted
+    part-lay-counted-start
+    part-lay-counted-end
+    lay-counted-requires
+    add-end
+    add-k
+    loop-less
+    loop-again
+    same-length
+    returns)
