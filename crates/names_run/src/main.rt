@@ -6,6 +6,7 @@ mod show; // show.rt: one call, its answer and its bytes
 use trial::case::bytes_of;
 use trial::lines::end_of;
 use trial::lines::letter_of;
+use trial::lines::next_line;
 use trial::lines::number_at;
 use trial::say::fault;
 use trial::say::newline;
@@ -16,9 +17,9 @@ fn run_call(line: &[u8], plate: &[u8], name: &[u8]) {
     let n = number_at(line, 1);
     if 4096 < n {
         fault(line);
-        return;
+    } else {
+        show::call(line, plate, name, &mut out[0..n]);
     }
-    show::call(line, plate, name, &mut out[0..n]);
 }
 
 fn run_name(line: &[u8], plate: &[u8]) {
@@ -75,10 +76,7 @@ fn run_lines(text: &[u8], plate: &mut [u8]) {
     while at < text.len() {
         let end = end_of(text, at, b'\n');
         n = run_line(&text[at..end], plate, n);
-        if end == text.len() {
-            return;
-        }
-        at = end + 1;
+        at = next_line(text, at);
     }
 }
 

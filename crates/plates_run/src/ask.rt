@@ -2,16 +2,16 @@
 // what was written is accepted.
 ghost use mathlib.Core.Path.{_≡_};
 ghost use lib.ListN.{length};
-use super::bytes::hex;
-use super::bytes::sum;
 use builder::Built;
 use builder::Fault;
 use builder::build;
 use plate::accept::accept;
 use trial::lent::is_lent_from;
 use trial::lent::lend;
+use trial::say::hex;
 use trial::say::labelled;
 use trial::say::newline;
+use trial::say::sum;
 use trial::say::word;
 use trial::say::yes_or_no;
 
@@ -99,19 +99,10 @@ fn show_accepted(plate: &[u8]) {
     yes_or_no(accept(plate), b", accepted", b", NOT ACCEPTED");
 }
 
-fn show_bytes(plate: &[u8]) {
-    show_accepted(plate);
-    word(b"\n ");
-    hex(plate);
-}
-
-// The answer and the plate, byte by byte.
-pub(crate) fn show_plate(name: &[u8], text: &[u8], flag: bool) {
-    let mut buffer = plate_buffer();
-    let n = ask(name, text, flag, &mut buffer);
-    if n <= 51429 {
-        show_bytes(&buffer[0..n]);
-    }
+pub(crate) fn show_sum(plate: &[u8]) {
+    word(b" sum ");
+    sum(plate);
+    newline();
 }
 
 // A buffer of just the plate's length, and one of a byte less.
@@ -122,17 +113,27 @@ fn show_edge(text: &[u8], n: usize) {
     }
 }
 
-fn show_sum(plate: &[u8]) {
-    show_accepted(plate);
-    sum(plate);
+fn show_bytes(plate: &[u8]) {
+    word(b"\n ");
+    hex(plate);
+    newline();
 }
 
-// The answer and the plate's sum; then buffers at the edge.
-pub(crate) fn show_room(name: &[u8], text: &[u8]) {
+fn show_written(letter: u8, text: &[u8], plate: &[u8]) {
+    show_accepted(plate);
+    if letter == b'r' {
+        show_sum(plate);
+        show_edge(text, plate.len());
+        return;
+    }
+    show_bytes(plate);
+}
+
+// The answer and, by the letter, the plate's sum and buffers at the edge (r), or the plate byte by byte, the flag off (o) or on.
+pub(crate) fn show_plate(letter: u8, name: &[u8], text: &[u8]) {
     let mut buffer = plate_buffer();
-    let n = ask(name, text, true, &mut buffer);
+    let n = ask(name, text, letter != b'o', &mut buffer);
     if n <= 51429 {
-        show_sum(&buffer[0..n]);
-        show_edge(text, n);
+        show_written(letter, text, &buffer[0..n]);
     }
 }

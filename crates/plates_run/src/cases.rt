@@ -9,6 +9,7 @@ use trial::case::bytes_of;
 use trial::lines::end_of;
 use trial::lines::field_start;
 use trial::lines::letter_of;
+use trial::lines::next_line;
 use trial::lines::number_at;
 use trial::say::fault;
 
@@ -29,15 +30,14 @@ fn add(bytes: &mut [u8], at: usize, n: usize) {
 fn count(line: &[u8], bytes: &mut [u8], k: usize) {
     let place = number_at(line, 3);
     let base = number_at(line, 4);
-    if base == 0 {
-        return;
+    if 0 < base {
+        add(bytes, place, k / base);
+        add(bytes, place + 1, k % base);
     }
-    add(bytes, place, k / base);
-    add(bytes, place + 1, k % base);
 }
 
-// The bytes of a line, and how many they are.
-fn lay(line: &[u8], bytes: &mut [u8]) -> usize
+// The bytes of a line, counted if its letter says so, and how many they are.
+fn lay(line: &[u8], bytes: &mut [u8], k: usize) -> usize
     ensures { λ r. ⌜ r ≤ length (now (bytes .exit)) ⌝ }
 {
     let n = bytes_of(line, bytes);
@@ -45,13 +45,6 @@ fn lay(line: &[u8], bytes: &mut [u8]) -> usize
         fault(line);
         return 0;
     }
-    n
-}
-
-fn lay_counted(line: &[u8], bytes: &mut [u8], k: usize) -> usize
-    ensures { λ r. ⌜ r ≤ length (now (bytes .exit)) ⌝ }
-{
-    let n = lay(line, bytes);
     if letter_of(line) == b'k' {
         count(line, bytes, k);
     }
@@ -67,16 +60,14 @@ fn lay_times(line: &[u8], text: &mut [u8], at: usize) -> usize
     let to = number_at(line, 2);
     let mut end = at;
     for k in from..to {
-        end += lay_counted(line, &mut text[end..], k);
+        end += lay(line, &mut text[end..], k);
     }
     end
 }
 
 fn run_letter(letter: u8, title: &[u8], bytes: &[u8]) {
     match letter {
-        b'p' => ask::show_plate(title, bytes, true),
-        b'o' => ask::show_plate(title, bytes, false),
-        b'r' => ask::show_room(title, bytes),
+        b'p' | b'o' | b'r' => ask::show_plate(letter, title, bytes),
         b't' => ask::show(title, bytes),
         _ => judge::show(title, bytes),
     }
@@ -92,7 +83,7 @@ fn run_bytes(line: &[u8], bytes: &[u8]) {
 fn run_case(line: &[u8], text: &mut [u8], at: usize)
     requires { ⌜ at ≤ length (now text) ⌝ }
 {
-    let end = at + lay(line, &mut text[at..]);
+    let end = at + lay(line, &mut text[at..], 0);
     if letter_of(line) == b'b' {
         judge::show_bits(&mut text[0..end]);
         return;
@@ -125,10 +116,7 @@ fn run_lines(file: &[u8], text: &mut [u8]) {
     while at < file.len() {
         let end = end_of(file, at, b'\n');
         laid = run_line(&file[at..end], text, laid);
-        if end == file.len() {
-            return;
-        }
-        at = end + 1;
+        at = next_line(file, at);
     }
 }
 

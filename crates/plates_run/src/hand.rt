@@ -1,15 +1,15 @@
 // Plates written by hand, bit by bit: those that no text builds. A place is counted in bits.
 ghost use mathlib.Core.Path.{_≡_};
-ghost use Prim.Native.Nat.{_+_, _*_, _≤_};
+ghost use Prim.Native.Nat.{_+_, _*_, _≤_, _<_};
 ghost use lib.ListN.{length};
 use super::ask::plate_buffer;
-use super::bytes::sum;
+use super::ask::show_sum;
 use super::judge::show;
 use trial::say::number;
 use trial::say::word;
 
 // A bit over a cleared one.
-fn put_bit(plate: &mut [u8], at: usize, bit: u64) {
+fn put_bit(plate: &mut [u8], at: usize, bit: usize) {
     let i = at / 8;
     if bit == 0 {
         return;
@@ -20,7 +20,7 @@ fn put_bit(plate: &mut [u8], at: usize, bit: u64) {
 }
 
 // A number in so many bits, over cleared ones; the place behind it.
-fn put(plate: &mut [u8], at: usize, width: usize, value: u64) -> usize
+fn put(plate: &mut [u8], at: usize, width: usize, value: usize) -> usize
     requires { ⌜ (at ≤ 1000000) × (width ≤ 64) ⌝ }
     ensures { λ r. ⌜ r ≡ at + width ⌝ }
 {
@@ -30,23 +30,14 @@ fn put(plate: &mut [u8], at: usize, width: usize, value: u64) -> usize
     at + width
 }
 
-// Edition 1 in 8 bits, the counts in 10 and 8, the flag on, five zero bits.
-fn put_head(plate: &mut [u8], rules: usize, foldings: usize) -> usize
-    requires { ⌜ (rules ≤ 600) × (foldings ≤ 200) ⌝ }
-    ensures { λ r. ⌜ r ≡ 32 ⌝ }
+// Foldings to `a` of the keys from U+0100 on, behind the head: key and target in 21 bits each.
+fn put_foldings(plate: &mut [u8], n: usize) -> usize
+    requires { ⌜ n ≤ 200 ⌝ }
+    ensures { λ r. ⌜ r ≡ 32 + 42 * n ⌝ }
 {
-    let counts = (1024 + rules) * 256 + foldings;
-    put(plate, 0, 32, (counts * 64 + 32) as u64)
-}
-
-// Foldings to `a` of the keys from U+0100 on: key and target in 21 bits each.
-fn put_foldings(plate: &mut [u8], at: usize, n: usize) -> usize
-    requires { ⌜ (at ≤ 32) × (n ≤ 200) ⌝ }
-    ensures { λ r. ⌜ r ≡ at + 42 * n ⌝ }
-{
-    let mut end = at;
+    let mut end: usize = 32;
     for k in 0..n {
-        end = put(plate, end, 42, ((0x100 + k) * 0x200000 + 0x61) as u64);
+        end = put(plate, end, 42, (0x100 + k) * 0x200000 + 0x61);
     }
     end
 }
@@ -56,8 +47,12 @@ fn put_pattern(plate: &mut [u8], at: usize, k: usize) -> usize
     requires { ⌜ (at ≤ 800000) × (k ≤ 600) ⌝ }
     ensures { λ r. ⌜ r ≡ at + 133 ⌝ }
 {
-    let letters = (16 * 256 + 97 + k / 26) * 256 + 97 + k % 26;
-    let seven = put(plate, at, 21, letters as u64);
+    let seven = put(
+        plate,
+        at,
+        21,
+        0b10000_01100001_01100001 + k / 26 * 256 + k % 26,
+    );
     let more = put(plate, seven, 56, 0x6E6E6E6E6E6E6E);
     put(plate, more, 56, 0x6E6E6E6E6E6E6E)
 }
@@ -95,22 +90,21 @@ fn put_rules(plate: &mut [u8], at: usize, n: usize) -> usize
     end
 }
 
-// So many foldings, at the limit and over it.
+// So many foldings, at the limit and over it. The head: edition 1 in 8 bits, no rules in 10, the foldings in 8, the flag on, five zero bits.
 pub(crate) fn many_foldings(n: usize)
     requires { ⌜ n ≤ 200 ⌝ }
 {
     let mut plate = plate_buffer();
-    let head = put_head(&mut plate, 0, n);
-    let end = put_foldings(&mut plate, head, n);
-    let bytes = (end + 7) / 8;
+    put(&mut plate, 0, 32, 0x01000020 + n * 64);
+    let bytes = (put_foldings(&mut plate, n) + 7) / 8;
     number(n);
     show(b" foldings", &plate[0..bytes]);
 }
 
 // The bits of the largest plate: 512 rules, 128 foldings.
 fn put_largest(plate: &mut [u8]) -> usize {
-    let head = put_head(plate, 512, 128);
-    let rules = put_foldings(plate, head, 128);
+    put(plate, 0, 32, 0x01802020);
+    let rules = put_foldings(plate, 128);
     put_rules(plate, rules, 512)
 }
 
@@ -121,19 +115,19 @@ fn show_first(plate: &[u8], n: usize)
     show(b" bytes", &plate[0..n]);
 }
 
-// The largest plate, a byte less, and a zero byte more.
-fn show_largest(plate: &[u8])
-    requires { ⌜ 51429 ≡ length (now plate) ⌝ }
+// The plate in front of some bytes, a byte less, and a byte more.
+fn show_around(plate: &[u8], n: usize)
+    requires { ⌜ (0 < n) × (n < length (now plate)) ⌝ }
 {
-    sum(&plate[0..51428]);
-    show_first(plate, 51428);
-    show_first(plate, 51427);
-    show_first(plate, 51429);
+    show_sum(&plate[0..n]);
+    show_first(plate, n);
+    show_first(plate, n - 1);
+    show_first(plate, n + 1);
 }
 
 pub(crate) fn largest() {
     let mut plate = plate_buffer();
     number(put_largest(&mut plate));
     word(b" bits\n");
-    show_largest(&plate);
+    show_around(&plate, 51428);
 }

@@ -6,7 +6,6 @@
 mod cases; // cases.rt: the cases of a file
 mod ask; // ask.rt: a text is built, and the answer written
 mod judge; // judge.rt: bytes are judged, whole or one bit at a time
-mod bytes; // bytes.rt: a plate's bytes, written out or their sum
 mod hand; // hand.rt: plates written bit by bit
 
 fn main() {

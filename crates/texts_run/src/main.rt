@@ -11,6 +11,7 @@ use rule_text::item::item;
 use trial::case::bytes_of;
 use trial::lines::end_of;
 use trial::lines::letter_of;
+use trial::lines::next_line;
 use trial::say::fault;
 use trial::say::labelled;
 use trial::say::newline;
@@ -134,11 +135,15 @@ fn show(text: &[u8]) {
     }
 }
 
+fn refusal(n: usize) {
+    labelled(b"  refusal ", n);
+}
+
 fn show_alternatives(found: Alternatives) {
     match found {
         Alternatives::Many(n) => labelled(b"  alternatives ", n),
-        Alternatives::TooMany => labelled(b"  refusal ", 6),
-        Alternatives::NotDigits => labelled(b"  refusal ", 7),
+        Alternatives::TooMany => refusal(6),
+        Alternatives::NotDigits => refusal(7),
     }
     newline();
 }
@@ -175,10 +180,7 @@ fn run_lines(text: &[u8], bytes: &mut [u8]) {
     while at < text.len() {
         let end = end_of(text, at, b'\n');
         run_line(&text[at..end], bytes);
-        if end == text.len() {
-            return;
-        }
-        at = end + 1;
+        at = next_line(text, at);
     }
 }
 

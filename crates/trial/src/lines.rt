@@ -1,5 +1,5 @@
 // A line and its fields, one space between two. Reading never fails: a field that is no number reads as one that no case has.
-ghost use Prim.Native.Nat.{_≤_};
+ghost use Prim.Native.Nat.{_≤_, _<_};
 ghost use lib.ListN.{length};
 
 // More than any number, count or buffer has: what a field reads as that is no decimal number below it.
@@ -27,6 +27,18 @@ pub fn end_of(s: &[u8], start: usize, mark: u8) -> usize
         }
     }
     s.len()
+}
+
+// Where the line behind the one that begins at a place begins, or the end.
+pub fn next_line(s: &[u8], at: usize) -> usize
+    requires { ⌜ at < length (now s) ⌝ }
+    ensures { λ r. ⌜ (at < r) × (r ≤ length (now (s .entry))) ⌝ }
+{
+    let end = end_of(s, at, b'\n');
+    if end == s.len() {
+        return end;
+    }
+    end + 1
 }
 
 // Where a field begins, the first being field 0, or the end if the line has no such field.

@@ -4,27 +4,24 @@
 mod fields; // fields.rt: the fields of a line that are bytes in hex
 mod replay; // replay.rt: one answer
 
-ghost use Prim.Native.Nat.{_+_, _≤_, _<_};
+ghost use Prim.Native.Nat.{_≤_};
 use fields::hex;
 use replay::comes_again;
 use trial::lines::end_of;
 use trial::lines::field_start;
 use trial::lines::letter_of;
+use trial::lines::next_line;
 use trial::say::fault;
 use trial::say::labelled;
 use trial::say::word;
 
-// The length of the present plate, and how many answers and lines that differ there were so far.
-struct Tally {
-    plate: usize,
-    answers: usize,
-    differ: usize,
-}
-
-fn is_answer(letter: u8) -> bool {
+// 1 for the letter of an answer.
+fn one_answer(letter: u8) -> usize
+    ensures { λ r. ⌜ r ≤ 1 ⌝ }
+{
     match letter {
-        b'e' | b'l' => true,
-        _ => false,
+        b'e' | b'l' => 1,
+        _ => 0,
     }
 }
 
@@ -55,71 +52,45 @@ fn plate_after(line: &[u8], plate: &mut [u8], n: usize) -> usize {
     hex(&line[start..], plate)
 }
 
-fn one_if(is: bool) -> usize
+// 1 for a line that differs, which is shown.
+fn differs(line: &[u8], plate: &[u8], n: usize) -> usize
     ensures { λ r. ⌜ r ≤ 1 ⌝ }
 {
-    if is { 1 } else { 0 }
-}
-
-fn counted(line: &[u8], t: Tally, plate: usize, is_same: bool) -> Tally
-    requires { ⌜ (t .answers < 18446744073709551615) × (t .differ < 18446744073709551615) ⌝ }
-    ensures { λ r. ⌜ (r .answers ≤ t .answers + 1) × (r .differ ≤ t .differ + 1) ⌝ }
-{
-    if !is_same {
-        fault(line);
+    if is_good_with(line, plate, n) {
+        return 0;
     }
-    Tally {
-        plate,
-        answers: t.answers + one_if(is_answer(letter_of(line))),
-        differ: t.differ + one_if(!is_same),
-    }
+    fault(line);
+    1
 }
 
-// The tally after a line.
-fn one_line(line: &[u8], plate: &mut [u8], t: Tally) -> Tally
-    requires { ⌜ (t .answers < 18446744073709551615) × (t .differ < 18446744073709551615) ⌝ }
-    ensures { λ r. ⌜ (r .answers ≤ t .answers + 1) × (r .differ ≤ t .differ + 1) ⌝ }
-{
-    let n = plate_after(line, plate, t.plate);
-    let is_same = is_good_with(line, plate, n);
-    counted(line, t, n, is_same)
-}
-
-fn all_lines(text: &[u8], plate: &mut [u8]) -> Tally {
-    let mut t = Tally {
-        plate: 0,
-        answers: 0,
-        differ: 0,
-    };
-    let mut at: usize = 0;
-    while at < text.len() {
-        let end = end_of(text, at, b'\n');
-        t = one_line(&text[at..end], plate, t);
-        if end == text.len() {
-            return t;
-        }
-        at = end + 1;
-    }
-    t
-}
-
-fn show_tally(path: &[u8], t: Tally) {
+fn show_tally(path: &[u8], answers: usize, differ: usize) {
     word(path);
-    labelled(b": ", t.answers);
-    labelled(b" answers, ", t.differ);
+    labelled(b": ", answers);
+    labelled(b" answers, ", differ);
     word(b" differ\n");
 }
 
-fn replay_text(path: &[u8], text: &[u8]) {
-    let mut plate = io::large_buffer();
-    let t = all_lines(text, &mut plate);
-    show_tally(path, t);
+fn replay_lines(path: &[u8], text: &[u8], plate: &mut [u8]) {
+    let mut n: usize = 0;
+    let mut answers: usize = 0;
+    let mut differ: usize = 0;
+    let mut at: usize = 0;
+    while at < text.len() {
+        let end = end_of(text, at, b'\n');
+        let line = &text[at..end];
+        n = plate_after(line, plate, n);
+        differ += differs(line, plate, n);
+        answers += one_answer(text[at]);
+        at = next_line(text, at);
+    }
+    show_tally(path, answers, differ);
 }
 
 fn replay_file(path: &[u8]) {
     let mut text = io::large_buffer();
     let n = trial::file::read(path, &mut text);
-    replay_text(path, &text[0..n]);
+    let mut plate = io::large_buffer();
+    replay_lines(path, &text[0..n], &mut plate);
 }
 
 fn main() {

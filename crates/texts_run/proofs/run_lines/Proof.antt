@@ -31,14 +31,8 @@ part-run-line-end c = omega arith
 run-line-requires : tie.Need-run-line-requires Inv-loop μ-loop
 run-line-requires c κs = search needs
 
-same-length : tie.Need-same-length Inv-loop μ-loop
-same-length c = omega arith
-
-returns : tie.Need-returns Inv-loop μ-loop
-returns c = search needs
-
-add-at : tie.Need-add-at Inv-loop μ-loop
-add-at c = omega arith
+next-line-requires : tie.Need-next-line-requires Inv-loop μ-loop
+next-line-requires c κs = omega arith
 
 loop-less : tie.Need-loop-less Inv-loop μ-loop
 loop-less c = omega arith
@@ -46,11 +40,11 @@ loop-less c = omega arith
 loop-again : tie.Need-loop-again Inv-loop μ-loop
 loop-again c = omega arith
 
-same-length-2 : tie.Need-same-length-2 Inv-loop μ-loop
-same-length-2 c = omega arith
+same-length : tie.Need-same-length Inv-loop μ-loop
+same-length c = omega arith
 
-returns-2 : tie.Need-returns-2 Inv-loop μ-loop
-returns-2 c = search needs
+returns : tie.Need-returns Inv-loop μ-loop
+returns c = search needs
 
 pub run-lines-spec : {M : Type 1} → statement M
 run-lines-spec =
@@ -64,10 +58,8 @@ run-lines-spec =
     part-run-line-start
     part-run-line-end
     run-line-requires
-    same-length
-    returns
-    add-at
+    next-line-requires
     loop-less
     loop-again
-    same-length-2
-    returns-2)
+    same-length
+    returns)

@@ -22,17 +22,17 @@ number-at-requires-2 c κs = search needs
 loop-holds : tie.Need-loop-holds Inv-loop μ-loop
 loop-holds c = omega arith
 
-sub-lay-counted : tie.Need-sub-lay-counted Inv-loop μ-loop
-sub-lay-counted c = omega arith
+sub-lay : tie.Need-sub-lay Inv-loop μ-loop
+sub-lay c = omega arith
 
-part-lay-counted-start : tie.Need-part-lay-counted-start Inv-loop μ-loop
-part-lay-counted-start c = omega arith
+part-lay-start : tie.Need-part-lay-start Inv-loop μ-loop
+part-lay-start c = omega arith
 
-part-lay-counted-end : tie.Need-part-lay-counted-end Inv-loop μ-loop
-part-lay-counted-end c = omega arith
+part-lay-end : tie.Need-part-lay-end Inv-loop μ-loop
+part-lay-end c = omega arith
 
-lay-counted-requires : tie.Need-lay-counted-requires Inv-loop μ-loop
-lay-counted-requires c κs = search needs
+lay-requires : tie.Need-lay-requires Inv-loop μ-loop
+lay-requires c κs = search needs
 
 add-end : tie.Need-add-end Inv-loop μ-loop
 add-end c = omega arith
@@ -61,10 +61,10 @@ lay-times-spec =
     number-at-requires
     number-at-requires-2
     loop-holds
-    sub-lay-counted
-    part-lay-counted-start
-    part-lay-counted-end
-    lay-counted-requires
+    sub-lay
+    part-lay-start
+    part-lay-end
+    lay-requires
     add-end
     add-k
     loop-less

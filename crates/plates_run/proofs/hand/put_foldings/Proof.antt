@@ -7,10 +7,10 @@ use Rattle.plates_run.proofs.hand.put_foldings.Statement.{statement}
 use Rattle.plates_run.proofs.hand.put_foldings.Tie as tie
 
 abbrev Inv-loop : tie.InvT-loop
-Inv-loop plate₀ at n end₀ k₀ plate end k = (k ≤ n) × (end ≡ at + 42 * k) × (length plate ≡ length plate₀)
+Inv-loop plate₀ n end₀ k₀ plate end k = (k ≤ n) × (end ≡ 32 + 42 * k) × (length plate ≡ length plate₀)
 
 abbrev μ-loop : tie.MeasureT-loop
-μ-loop plate₀ at n end₀ k₀ plate end k = n - k
+μ-loop plate₀ n end₀ k₀ plate end k = n - k
 
 loop-holds : tie.Need-loop-holds Inv-loop μ-loop
 loop-holds c = omega arith

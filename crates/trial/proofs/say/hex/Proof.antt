@@ -3,8 +3,8 @@ use borrow.Author.Needs.{needs}
 use native.Mathlib.Omega.{arith}
 use lib.ListN.{length}
 use Prim.Native.Nat.{_-_, _≤_}
-use Rattle.plates_run.proofs.bytes.hex.Statement.{statement}
-use Rattle.plates_run.proofs.bytes.hex.Tie as tie
+use Rattle.trial.proofs.say.hex.Statement.{statement}
+use Rattle.trial.proofs.say.hex.Tie as tie
 
 abbrev Inv-loop : tie.InvT-loop
 Inv-loop s i₀ t3 i-end i = i ≤ length s
@@ -39,9 +39,6 @@ loop-less c = omega arith
 loop-again : tie.Need-loop-again Inv-loop μ-loop
 loop-again c = omega arith
 
-newline-requires : tie.Need-newline-requires Inv-loop μ-loop
-newline-requires c κs = search needs
-
 returns : tie.Need-returns Inv-loop μ-loop
 returns c = search needs
 
@@ -60,5 +57,4 @@ hex-spec =
     add-i
     loop-less
     loop-again
-    newline-requires
     returns)

@@ -3,8 +3,8 @@ use borrow.Author.Needs.{needs}
 use native.Mathlib.Omega.{arith}
 use lib.ListN.{length}
 use Prim.Native.Nat.{_-_, _≤_, _<_}
-use Rattle.plates_run.proofs.bytes.sum.Statement.{statement}
-use Rattle.plates_run.proofs.bytes.sum.Tie as tie
+use Rattle.trial.proofs.say.sum.Statement.{statement}
+use Rattle.trial.proofs.say.sum.Tie as tie
 
 abbrev Inv-loop : tie.InvT-loop
 Inv-loop s low₀ high₀ i₀ i-end low high i = (i ≤ length s) × (low < 65521) × (high < 65521)
@@ -36,14 +36,14 @@ loop-less c = omega arith
 loop-again : tie.Need-loop-again Inv-loop μ-loop
 loop-again c = omega arith
 
-mul-show-sum : tie.Need-mul-show-sum Inv-loop μ-loop
-mul-show-sum c = omega arith
+mul-print-hex : tie.Need-mul-print-hex Inv-loop μ-loop
+mul-print-hex c = omega arith
 
-add-show-sum : tie.Need-add-show-sum Inv-loop μ-loop
-add-show-sum c = omega arith
+add-print-hex : tie.Need-add-print-hex Inv-loop μ-loop
+add-print-hex c = omega arith
 
-show-sum-requires : tie.Need-show-sum-requires Inv-loop μ-loop
-show-sum-requires c κs = search needs
+print-hex-requires : tie.Need-print-hex-requires Inv-loop μ-loop
+print-hex-requires c κs = search needs
 
 returns : tie.Need-returns Inv-loop μ-loop
 returns c = search needs
@@ -62,7 +62,7 @@ sum-spec =
     add-i
     loop-less
     loop-again
-    mul-show-sum
-    add-show-sum
-    show-sum-requires
+    mul-print-hex
+    add-print-hex
+    print-hex-requires
     returns)
