@@ -40,7 +40,7 @@ fn run(line: &[u8], plate: &[u8], n: usize) {
     }
     match letter_of(line) {
         b'#' => {}
-        b'e' | b'l' => run_name(line, &plate[0..n]),
+        b'e' | b'l' | b'x' => run_name(line, &plate[0..n]),
         _ => fault(line),
     }
 }

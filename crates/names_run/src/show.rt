@@ -90,9 +90,21 @@ fn ask(line: &[u8], plate: &[u8], name: &[u8], lent: &mut [u8]) -> Coded {
     list(plate, name, lent)
 }
 
+// For a line with the letter x the last byte is changed, so that the test of the bytes behind is seen to fail.
+fn spoil(line: &[u8], lent: &mut [u8]) {
+    let n = lent.len();
+    if n == 0 {
+        return;
+    }
+    if letter_of(line) == b'x' {
+        lent[n - 1] = 0;
+    }
+}
+
 pub(crate) fn call(line: &[u8], plate: &[u8], name: &[u8], lent: &mut [u8]) {
     lend(lent);
     let coded = ask(line, plate, name, lent);
+    spoil(line, lent);
     head(line, lent.len());
     answer(coded);
     buffer(lent);

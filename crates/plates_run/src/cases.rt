@@ -26,14 +26,20 @@ fn add(bytes: &mut [u8], at: usize, n: usize) {
     }
 }
 
-// Adds a number to two bytes that count.
+// Adds a number to two bytes that count. A field that is no number reads as 100000.
 fn count(line: &[u8], bytes: &mut [u8], k: usize) {
     let place = number_at(line, 3);
     let base = number_at(line, 4);
-    if 0 < base {
-        add(bytes, place, k / base);
-        add(bytes, place + 1, k % base);
+    if base % 100000 == 0 {
+        fault(line);
+        return;
     }
+    if place == 100000 {
+        fault(line);
+        return;
+    }
+    add(bytes, place, k / base);
+    add(bytes, place + 1, k % base);
 }
 
 // The bytes of a line, counted if its letter says so, and how many they are.
@@ -51,6 +57,14 @@ fn lay(line: &[u8], bytes: &mut [u8], k: usize) -> usize
     n
 }
 
+// Whether numbers rise from one to another. A field that is no number reads as 100000.
+fn is_range(from: usize, to: usize) -> bool {
+    if to < from {
+        return false;
+    }
+    to < 100000
+}
+
 // The bytes of a line once for each number, behind those that are laid; how many they are then.
 fn lay_times(line: &[u8], text: &mut [u8], at: usize) -> usize
     requires { ⌜ at ≤ length (now text) ⌝ }
@@ -58,6 +72,10 @@ fn lay_times(line: &[u8], text: &mut [u8], at: usize) -> usize
 {
     let from = number_at(line, 1);
     let to = number_at(line, 2);
+    if !is_range(from, to) {
+        fault(line);
+        return at;
+    }
     let mut end = at;
     for k in from..to {
         end += lay(line, &mut text[end..], k);

@@ -1,14 +1,9 @@
 // Reading a whole file.
 ghost use Prim.Native.Nat.{_≤_};
 ghost use lib.ListN.{length};
-use super::say::word;
+use super::say::fault;
 
-fn say_too_long(path: &[u8]) {
-    word(path);
-    word(b": too long\n");
-}
-
-// The whole of a file at once, and how many bytes it has; 0, and why, if it cannot be read. One that fills the buffer may go on behind it, so it is not taken.
+// The whole of a file at once, and how many bytes it has; 0, and a word of it, if it cannot be read. One that fills the buffer may go on behind it, so it is not taken.
 pub fn read(path: &[u8], text: &mut [u8]) -> usize
     ensures { λ r. ⌜ r ≤ length (now (text .exit)) ⌝ }
 {
@@ -20,7 +15,7 @@ pub fn read(path: &[u8], text: &mut [u8]) -> usize
     let n = io::read_full(fd, text);
     libc::close(fd);
     if n == text.len() {
-        say_too_long(path);
+        fault(path);
         return 0;
     }
     n

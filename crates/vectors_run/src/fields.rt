@@ -5,7 +5,7 @@ use trial::lines::end_of;
 use trial::lines::field_start;
 use trial::lines::hex_byte;
 
-// More than any buffer has: the answer where a field is not in hex, or its bytes do not fit.
+// More than any buffer has: the answer where a field has another form, or its bytes do not fit.
 const NO_BYTES: usize = 18446744073709551615;
 
 // Whether a field is `-`, which stands for no bytes.
@@ -30,7 +30,7 @@ fn pairs(s: &[u8], into: &mut [u8]) -> usize
     s.len() / 2
 }
 
-// The bytes of a field in hex, and how many they are.
+// The bytes of a field, and how many they are.
 pub(crate) fn hex(s: &[u8], into: &mut [u8]) -> usize {
     if is_none(s) {
         return 0;

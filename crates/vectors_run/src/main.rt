@@ -1,4 +1,5 @@
-// Replays the fixed list of the Rust's answers, the files in data/, and writes for each file how many answers it has and how many differ.
+// Replays the fixed list of the Rust's answers, the files in data/, and writes for each file how many answers it has and how many differ; and a list of wrong
+// answers, each of which must be shown.
 // Each call has a buffer of its own length; its number, its count, each byte that it writes and each that it must leave are compared.
 // A line that has none of the forms in the list's head counts as one that differs. Each that differs is shown.
 mod fields; // fields.rt: the fields of a line that are bytes in hex
@@ -96,4 +97,5 @@ fn replay_file(path: &[u8]) {
 fn main() {
     replay_file(b"vectors-1.txt");
     replay_file(b"vectors-2.txt");
+    replay_file(b"control.txt");
 }

@@ -43,23 +43,22 @@ fn is_written(line: &[u8], out: &[u8]) -> bool {
     holds(out, codes)
 }
 
-// 01's number for an answer.
-fn number_of(coded: Coded) -> usize {
-    match coded {
-        Coded::Codes(_) => 0,
-        Coded::NotAPlate => 10,
-        Coded::NameTooLong => 1,
-        Coded::NotUtf8 => 2,
-        Coded::CharacterNotAllowed => 11,
-        Coded::RoomTooSmall => 12,
+fn has_values(line: &[u8], number: usize, count: usize) -> bool {
+    if number_at(line, 3) != number {
+        return false;
     }
+    number_at(line, 4) == count
 }
 
-// 01: "count of codes, 0 on refusal".
-fn count_of(coded: Coded) -> usize {
+// Whether a line has 01's number for an answer, and its count of codes, 0 on refusal.
+fn has_answer(line: &[u8], coded: Coded) -> bool {
     match coded {
-        Coded::Codes(n) => n,
-        _ => 0,
+        Coded::Codes(n) => has_values(line, 0, n),
+        Coded::NotAPlate => has_values(line, 10, 0),
+        Coded::NameTooLong => has_values(line, 1, 0),
+        Coded::NotUtf8 => has_values(line, 2, 0),
+        Coded::CharacterNotAllowed => has_values(line, 11, 0),
+        Coded::RoomTooSmall => has_values(line, 12, 0),
     }
 }
 
@@ -71,20 +70,13 @@ fn ask(letter: u8, plate: &[u8], name: &[u8], lent: &mut [u8]) -> Coded {
     list(plate, name, lent)
 }
 
-fn is_answer(line: &[u8], coded: Coded, lent: &[u8]) -> bool {
-    if number_of(coded) != number_at(line, 3) {
-        return false;
-    }
-    if count_of(coded) != number_at(line, 4) {
-        return false;
-    }
-    is_written(line, lent)
-}
-
 fn is_answered(letter: u8, line: &[u8], plate: &[u8], name: &[u8], lent: &mut [u8]) -> bool {
     lend(lent);
     let coded = ask(letter, plate, name, lent);
-    is_answer(line, coded, lent)
+    if has_answer(line, coded) {
+        return is_written(line, lent);
+    }
+    false
 }
 
 // The call with the bytes lent that the line says.

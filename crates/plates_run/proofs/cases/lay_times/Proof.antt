@@ -19,6 +19,15 @@ number-at-requires c κs = search needs
 number-at-requires-2 : tie.Need-number-at-requires-2 Inv-loop μ-loop
 number-at-requires-2 c κs = search needs
 
+is-range-requires : tie.Need-is-range-requires Inv-loop μ-loop
+is-range-requires c κs = search needs
+
+fault-requires : tie.Need-fault-requires Inv-loop μ-loop
+fault-requires c κs = search needs
+
+returns : tie.Need-returns Inv-loop μ-loop
+returns c = omega arith
+
 loop-holds : tie.Need-loop-holds Inv-loop μ-loop
 loop-holds c = omega arith
 
@@ -49,8 +58,8 @@ loop-again c = omega arith
 same-length : tie.Need-same-length Inv-loop μ-loop
 same-length c = omega arith
 
-returns : tie.Need-returns Inv-loop μ-loop
-returns c = omega arith
+returns-2 : tie.Need-returns-2 Inv-loop μ-loop
+returns-2 c = omega arith
 
 pub lay-times-spec : {M : Type 1} → statement M
 lay-times-spec =
@@ -60,6 +69,9 @@ lay-times-spec =
     μ-loop
     number-at-requires
     number-at-requires-2
+    is-range-requires
+    fault-requires
+    returns
     loop-holds
     sub-lay
     part-lay-start
@@ -70,4 +82,4 @@ lay-times-spec =
     loop-less
     loop-again
     same-length
-    returns)
+    returns-2)
