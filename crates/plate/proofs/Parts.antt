@@ -28,7 +28,8 @@ use Rattle.plate.specs.declared.Front as Front
 use Rattle.plate.specs.declared.Front.the-variants as FrontIs
 use Rattle.plate.specs.declared.Alternative.{Alternative}
 use Rattle.plate.specs.declared.Field.{Field}
-use Rattle.plate.proofs.Windows.{middle}
+use Rattle.plate.proofs.Place.{number-lt}
+use Rattle.plate.proofs.Windows.{number-append, middle}
 use Rattle.plate.proofs.Listed.{length-many, many-cons, many-snoc, past-cons, past-add, past-snoc, every-at, take-least}
 use Rattle.plate.proofs.Fronts.{front-is, bytes-length, bytes-drop, ascii, front-text, not-front}
 
@@ -84,6 +85,19 @@ fold-end s c at (suc n) h = absurd (omega arith)
 -- ---- places
 
 module _ (s : List ℕ) where
+  -- Seven bits are a field's count and the digit count of its first alternative.
+  pub field-front : (at v : ℕ) → v ≡ numberAt s at 7 → (v / 8 ≡ numberAt s at 4) × (v % 8 ≡ numberAt s (at + 4) 3)
+  field-front at v e =
+      let both : numberAt s at 7 ≡ numberAt s at 4 * 8 + numberAt s (at + 4) 3 = number-append s at 4 3 in
+      let few : numberAt s (at + 4) 3 < 8 = number-lt s (at + 4) 3 in
+      (omega (arith, both, few, e), omega (arith, both, few, e))
+
+  pub field-one : (at v : ℕ) → v ≡ numberAt s at 7 → v / 8 ≡ 1 → at + 7 + 4 * (v % 8) ≡ fieldEnd s at
+  field-one at v e h =
+      let f = field-front at v e in
+      ap (λ (n : ℕ). at + 7 + 4 * n) (f .1) ∙ ap (λ (n : ℕ). n + 4 * numberAt s (at + 4) 3) {x = at + 7} {y = at + 4 + 3} (omega arith)
+      ∙ ap (λ (n : ℕ). past (alternativeEnd s) n (at + 4)) (sym h ∙ f .0)
+
   pub field-turn : (place left : ℕ) → 0 < left → (r : ℕ) → r ≡ numberAt s place 3 → past (alternativeEnd s) (left - 1) (place + 3 + 4 * r) ≡ past (alternativeEnd s) left place
   field-turn place left h r e = ap (λ (x : ℕ). past (alternativeEnd s) (left - 1) (place + 3 + 4 * x)) e ∙ sym (past-cons (alternativeEnd s) left place h)
 

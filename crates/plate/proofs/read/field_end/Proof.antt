@@ -1,28 +1,46 @@
--- `plate::read::field_end` meets its contract: the place behind the alternatives left is the place behind all; no more than 31 bits pass a turn.
+-- `plate::read::field_end` meets its contract: the place behind the alternatives left is the place behind all; no more than 31 bits pass a turn. One alternative is passed by one read.
 -- Assumes nothing.
 use Prim.Native.Nat.{ℕ, _+_, _*_, _≤_}
 use mathlib.Core.Path.{_≡_, sym, _∙_, ap}
 use native.Mathlib.Omega.{arith}
 use Rattle.plate.specs.Read.{past, alternativeEnd, fieldEnd}
 use Rattle.plate.proofs.Listed.{past-end}
-use Rattle.plate.proofs.Parts.{field-turn}
+use Rattle.plate.proofs.Parts.{field-front, field-one, field-turn}
 use Rattle.plate.proofs.read.field_end.Statement.{statement}
 use Rattle.plate.proofs.read.field_end.Tie as tie
 
 abbrev Inv-loop : tie.InvT-loop
-Inv-loop plate at place₀ left₀ place left = (place + 31 * left ≤ at + 469) × (past (alternativeEnd plate) left place ≡ fieldEnd plate at)
+Inv-loop plate at front place₀ left₀ place left = (place + 31 * left ≤ at + 469) × (past (alternativeEnd plate) left place ≡ fieldEnd plate at)
 
 abbrev μ-loop : tie.MeasureT-loop
-μ-loop plate at place₀ left₀ place left = left
-
-add-place : tie.Need-add-place Inv-loop μ-loop
-add-place c = omega arith
+μ-loop plate at front place₀ left₀ place left = left
 
 count-requires : tie.Need-count-requires Inv-loop μ-loop
 count-requires c κs = omega arith
 
+add-result : tie.Need-add-result Inv-loop μ-loop
+add-result c = omega arith
+
+mul-result : tie.Need-mul-result Inv-loop μ-loop
+mul-result c = omega arith
+
+add-result-2 : tie.Need-add-result-2 Inv-loop μ-loop
+add-result-2 c = omega arith
+
+returns : tie.Need-returns Inv-loop μ-loop
+returns c =
+    let a = c .before .before .before .args in
+    (field-one (a .plate .now) (a .at) (c .before .count .result) (c .before .count .ensures .0) (c .if1 .taken), omega arith)
+
+add-place : tie.Need-add-place Inv-loop μ-loop
+add-place c = omega arith
+
 loop-holds : tie.Need-loop-holds Inv-loop μ-loop
-loop-holds c = let a = c .before .before .args in let h = c .count .ensures .1 in (omega arith, ap (λ (n : ℕ). past (alternativeEnd (a .plate .now)) n (a .at + 4)) (c .count .ensures .0))
+loop-holds c =
+    let a = c .before .before .before .args in
+    let f = field-front (a .plate .now) (a .at) (c .before .count .result) (c .before .count .ensures .0) in
+    let h = c .before .count .ensures .1 in
+    (omega arith, ap (λ (n : ℕ). past (alternativeEnd (a .plate .now)) n (a .at + 4)) (f .0))
 
 add-place-2 : tie.Need-add-place-2 Inv-loop μ-loop
 add-place-2 c = omega arith
@@ -46,12 +64,12 @@ loop-again : tie.Need-loop-again Inv-loop μ-loop
 loop-again c =
     let l = c .before .before .loop in
     let h = c .count2 .ensures .1 in
-    (omega arith, field-turn (c .before .before .before .before .before .args .plate .now) (l .place) (l .left) (c .before .loop-test .taken) (c .count2 .result) (c .count2 .ensures .0) ∙ l .inv .1)
+    (omega arith, field-turn (c .before .before .before .before .before .before .args .plate .now) (l .place) (l .left) (c .before .loop-test .taken) (c .count2 .result) (c .count2 .ensures .0) ∙ l .inv .1)
 
-returns : tie.Need-returns Inv-loop μ-loop
-returns c =
+returns-2 : tie.Need-returns-2 Inv-loop μ-loop
+returns-2 c =
     let l = c .before .loop in
-    (sym (past-end (alternativeEnd (c .before .before .before .before .args .plate .now)) (l .left) (l .place) (c .loop-test .left)) ∙ l .inv .1, omega arith)
+    (sym (past-end (alternativeEnd (c .before .before .before .before .before .args .plate .now)) (l .left) (l .place) (c .loop-test .left)) ∙ l .inv .1, omega arith)
 
 pub field-end-spec : {M : Type 1} → statement M
 field-end-spec =
@@ -59,8 +77,12 @@ field-end-spec =
     (tie.spec
     Inv-loop
     μ-loop
-    add-place
     count-requires
+    add-result
+    mul-result
+    add-result-2
+    returns
+    add-place
     loop-holds
     add-place-2
     count-requires-2
@@ -69,4 +91,4 @@ field-end-spec =
     sub-left
     loop-less
     loop-again
-    returns)
+    returns-2)
