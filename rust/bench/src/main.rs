@@ -16,20 +16,28 @@ use std::time::{Duration, Instant};
 use zengilvar::{raw, LONGEST_LIST, LONGEST_PLATE};
 
 /// How many times a figure is taken; the least of them is told.
-const TURNS: usize = 5;
+const TURNS: usize = 20;
 
-/// Nanoseconds for one of the `each` pieces of work that a run does.
-fn nanoseconds(seconds: f64, each: usize, mut run: impl FnMut()) -> f64 {
-    run();
-    let mut least = f64::INFINITY;
+/// Nanoseconds for one of the `each` pieces of work that a run does, over about so many seconds.
+fn turn(seconds: f64, each: usize, run: &mut impl FnMut()) -> f64 {
+    let begun = Instant::now();
+    let mut runs = 0;
+    while runs == 0 || begun.elapsed() < Duration::from_secs_f64(seconds) {
+        run();
+        runs += 1;
+    }
+    begun.elapsed().as_nanos() as f64 / (runs * each) as f64
+}
+
+/// The least of both sides, which take turns: a machine that slows down for a while slows both.
+fn in_turns(seconds: f64, each: usize, mut here: impl FnMut(), mut rust: Option<impl FnMut()>) -> (f64, Option<f64>) {
+    let slice = seconds / TURNS as f64;
+    let mut least = (f64::INFINITY, rust.as_ref().map(|_| f64::INFINITY));
     for _ in 0..TURNS {
-        let begun = Instant::now();
-        let mut runs = 0;
-        while begun.elapsed() < Duration::from_secs_f64(seconds / TURNS as f64) {
-            run();
-            runs += 1;
+        least.0 = least.0.min(turn(slice, each, &mut here));
+        if let (Some(rust), Some(time)) = (&mut rust, &mut least.1) {
+            *time = time.min(turn(slice, each, rust));
         }
-        least = least.min(begun.elapsed().as_nanos() as f64 / (runs * each) as f64);
     }
     least
 }
@@ -89,9 +97,9 @@ fn large(full: bool) -> Content {
     content
 }
 
-fn ours(seconds: f64, call: Call, rules: &Rules, names: &[String]) -> f64 {
+fn here<'a>(call: Call, rules: &'a Rules, names: &'a [String]) -> impl FnMut() + 'a {
     let mut out = [0; LONGEST_LIST];
-    nanoseconds(seconds, names.len(), || {
+    move || {
         for name in names {
             let coded = match call {
                 Call::Encode => raw::encode(black_box(&rules.plate), black_box(name.as_bytes()), &mut out),
@@ -99,22 +107,21 @@ fn ours(seconds: f64, call: Call, rules: &Rules, names: &[String]) -> f64 {
             };
             black_box(coded);
         }
-    })
+    }
 }
 
-fn theirs(seconds: f64, call: Call, rules: &Rules, names: &[String]) -> Option<f64> {
-    let coder = rules.coder.as_ref()?;
-    Some(nanoseconds(seconds, names.len(), || {
+fn there<'a>(call: Call, coder: &'a Coder, names: &'a [String]) -> impl FnMut() + 'a {
+    move || {
         for name in names {
             black_box(match call {
                 Call::Encode => coder.encode(black_box(name)),
                 Call::List => coder.soundex(black_box(name)),
             });
         }
-    }))
+    }
 }
 
-fn row(words: &str, here: f64, rust: Option<f64>) {
+fn row(words: &str, (here, rust): (f64, Option<f64>)) {
     match rust {
         Some(rust) => println!("| {words} | {here:.0} | {rust:.0} | {:.2} |", here / rust),
         None => println!("| {words} | {here:.0} | - | - |"),
@@ -126,14 +133,20 @@ fn head(words: &str) {
 }
 
 fn both(seconds: f64, words: &str, call: Call, rules: &Rules, names: &[String]) {
-    row(words, ours(seconds, call, rules, names), theirs(seconds, call, rules, names));
+    let rust = rules.coder.as_ref().map(|coder| there(call, coder, names));
+    row(words, in_turns(seconds, names.len(), here(call, rules, names), rust));
+}
+
+/// A name of no bytes costs what accepting the plate costs.
+fn accept(seconds: f64, words: &str, rules: &Rules) {
+    let empty = [String::new()];
+    row(words, in_turns(seconds, 1, here(Call::Encode, rules, &empty), None::<fn()>));
 }
 
 fn main() {
     let seconds = std::env::args().nth(1).map_or(0.2, |word| word.parse().expect("SECONDS is a number"));
     let mut random = Random::new(1);
     let names: Vec<String> = (0..2_000).map(|_| made::surname(&mut random)).collect();
-    let empty = vec![String::new()];
     let standard = from_text("standard rules", STANDARD);
     let small = from_text("small text S", SMALL);
 
@@ -148,19 +161,16 @@ fn main() {
     head("once");
     for (words, text) in [("build, standard rules", STANDARD), ("build, small text S", SMALL)] {
         let mut out = vec![0; LONGEST_PLATE];
-        let here = nanoseconds(seconds, 1, || {
+        let here = || {
             black_box(raw::build(black_box(text.as_bytes()), true, &mut out));
-        });
-        let rust = oracle::AT_HAND.then(|| {
-            nanoseconds(seconds, 1, || {
-                black_box(oracle::build(black_box(text), true).is_ok());
-            })
-        });
-        row(words, here, rust);
+        };
+        let rust = || {
+            black_box(oracle::build(black_box(text), true).is_ok());
+        };
+        row(words, in_turns(seconds, 1, here, oracle::AT_HAND.then_some(rust)));
     }
     for rules in [&standard, &small] {
-        let words = format!("accept, {}", rules.words);
-        row(&words, ours(seconds, Call::Encode, rules, &empty), None);
+        accept(seconds, &format!("accept, {}", rules.words), rules);
     }
 
     head("list by plate, `Rosochowaciec`");
@@ -175,7 +185,7 @@ fn main() {
     for rules in &plates {
         let words = format!("{}, {} bytes", rules.words, rules.plate.len());
         both(seconds, &words, Call::List, rules, &name);
-        row(&format!("{words}, accept"), ours(seconds, Call::Encode, rules, &empty), None);
+        accept(seconds, &format!("{words}, accept"), rules);
     }
 
     head("list by length of the name, standard rules, 1 branch");
