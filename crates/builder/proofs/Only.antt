@@ -37,7 +37,8 @@ back-told (Faulty NotDigits line) out = refl
 back-told (Faulty TooMany line) out = refl
 back-told ShortBuffer out = refl
 
-buffer-told : (r : Built) (out : List ℕ) → told r out .buffer ≡ out
+-- The buffer afterwards is told as it is.
+pub buffer-told : (r : Built) (out : List ℕ) → told r out .buffer ≡ out
 buffer-told (Plate n) out = refl
 buffer-told LongText out = refl
 buffer-told NotText out = refl

@@ -1,13 +1,12 @@
 -- Facts on tests that are joined, on a test of each of a list, and on an array that is filled from the front. Assumes nothing.
-use Prim.Native.Nat.{ℕ, zero, suc, _+_, _-_, _<_}
+use Prim.Native.Nat.{ℕ, suc, _+_, _-_, _<_}
 use mathlib.Core.Path.{_≡_, refl, sym, ap, _∙_}
 use mathlib.Core.Bool.{Bool, true, false, _&&_}
 use mathlib.Core.List.{List, [], _∷_, _++_, map}
 use native.Mathlib.Omega.{arith}
-use lib.ListN.{length, drop, set, replicate}
+use lib.ListN.{length, set, replicate}
 use lib.Seq.{set-at, append-snoc}
 use Rattle.laws.specs.Lists.{every}
-use Rattle.laws.proofs.Tests.{and-true}
 
 -- A test that holds may be left out.
 pub and-holds : (a b : Bool) → a ≡ true → a && b ≡ b
@@ -39,12 +38,6 @@ and-cross true false false d = refl
 pub every-append : {A : Type 0} (t : A → Bool) (xs ys : List A) → every t (xs ++ ys) ≡ every t xs && every t ys
 every-append t [] ys = refl
 every-append t (x ∷ xs) ys = ap (λ (b : Bool). t x && b) (every-append t xs ys) ∙ sym (and-assoc (t x) (every t xs) (every t ys))
-
--- Those behind the first k pass too.
-pub every-drop : {A : Type 0} (t : A → Bool) (k : ℕ) (xs : List A) → every t xs ≡ true → every t (drop k xs) ≡ true
-every-drop t zero xs h = h
-every-drop t (suc k) [] h = h
-every-drop t (suc k) (x ∷ xs) h = every-drop t k xs (and-true (t x) (every t xs) h .1)
 
 pub map-snoc : {A B : Type 0} (f : A → B) (xs : List A) (x : A) → map f (xs ++ (x ∷ [])) ≡ map f xs ++ (f x ∷ [])
 map-snoc f [] x = refl

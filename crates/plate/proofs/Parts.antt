@@ -13,7 +13,8 @@ use lib.Seq.{drop-drop}
 use borrow.Author.Tests.{leb-true, ltb-true, eq-eqb, ne-eqb}
 use Rattle.laws.specs.Lists.{every, between}
 use Rattle.laws.proofs.Tests.{and-true, both-true, between-true}
-use Rattle.laws.proofs.Many.{every-drop, map-snoc, store}
+use Rattle.laws.proofs.Cuts.{every-drop}
+use Rattle.laws.proofs.Many.{map-snoc, store}
 use Rattle.chars.specs.Utf8.{charOf, charsOf, isText, codeOf, widthOf}
 use Rattle.chars.specs.declared.Char.the-variants.{One}
 use Rattle.chars.proofs.Texts.{text-front, chars-front}

@@ -9,14 +9,14 @@ use lib.ListN.{length, drop}
 use Rattle.laws.specs.Lists.{every}
 use Rattle.chars.specs.Utf8.{isText}
 use Rattle.rule_text.specs.Items.{items, firstLine}
-use Rattle.plate.specs.Plate.{Plate, edition1}
+use Rattle.plate.specs.Plate.{edition1}
 use Rattle.plate.specs.Written.{plateBytes}
 use Rattle.plate.specs.Build as define
 use Rattle.plate.specs.Build.{Book, blank, Verdict, verdict, refusal, delivered, answered, nonzero, buildAnswer}
 use Rattle.plate.specs.Build.Verdict.{Faulty, Fine}
 use Rattle.builder.specs.Outcome.{told}
 use Rattle.builder.specs.declared.Built.{Built}
-use Rattle.builder.specs.declared.Built.the-variants as Built
+use Rattle.builder.proofs.Only.{buffer-told}
 use Rattle.plate.proofs.Goods.{plateOf, build-good}
 use Rattle.plate.proofs.Round.{edition1-reads, edition1-exact}
 use Rattle.coder.specs.Answer as code
@@ -28,14 +28,6 @@ use Rattle.promises.proofs.Numbers.{Small, verdict-small, build-refuses
 
 -- ---- demand 1
 
--- the buffer afterwards is told as it is
-told-buffer : (r : Built) (out : List ℕ) → told r out .buffer ≡ out
-told-buffer (Built.Plate n) out = refl
-told-buffer Built.LongText out = refl
-told-buffer Built.NotText out = refl
-told-buffer (Built.Faulty fault line) out = refl
-told-buffer Built.ShortBuffer out = refl
-
 tells-refuses : (wanted : code.Coded) (lent : List ℕ) → Refuses codeNumbers (wanted .number) (wanted .count) lent (wanted .buffer) → (r : Coded) (out : List ℕ) → Tells wanted r out
     → Refuses codeNumbers (numberOf r) (countOf r) lent out
 tells-refuses wanted lent h r out t =
@@ -46,7 +38,7 @@ tells-refuses wanted lent h r out t =
 pub demand-1 : Demand1
 demand-1 = (
   (λ text flag lent r out e.
-      subst (λ (l : List ℕ). Refuses buildNumbers (told r out .number) (told r out .length) lent l) (told-buffer r out)
+      subst (λ (l : List ℕ). Refuses buildNumbers (told r out .number) (told r out .length) lent l) (buffer-told r out)
       (subst (λ (a : define.Built). Refuses buildNumbers (a .number) (a .length) lent (a .buffer)) (sym e) (build-refuses text flag lent))),
   (λ plate name lent r out t. tells-refuses (code.listAnswer plate name lent) lent (list-refuses plate name lent) r out t),
   (λ plate name lent r out t. tells-refuses (code.encodeAnswer plate name lent) lent (encode-refuses plate name lent) r out t),
@@ -95,7 +87,7 @@ demand-2 = (
         w .0,
         w .2,
         (
-          sym (told-buffer r out) ∙ ap (λ (a : define.Built). a .buffer) same,
+          sym (buffer-told r out) ∙ ap (λ (a : define.Built). a .buffer) same,
           ap (λ (a : define.Built). a .length) same,
           edition1-reads (plateOf flag (w .0)) (build-good text bytes (w .1) (w .0) (w .2) flag),
         ),
