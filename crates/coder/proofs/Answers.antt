@@ -24,7 +24,7 @@ use Rattle.coder.specs.Numbers.{codeAnswer}
 use Rattle.coder.specs.declared.Fault.{Fault}
 use Rattle.coder.specs.declared.Prepared.{Prepared}
 use Rattle.coder.specs.declared.Fault.the-variants as Fault
-use Rattle.coder.proofs.Plates.{rules-good, rules-ordered}
+use Rattle.plate.proofs.Facts.{rules-good, rules-ordered}
 use Rattle.coder.proofs.Firsts.{uses-good, cut-eight, encode-listed}
 
 -- ---- the name
@@ -193,7 +193,7 @@ module _ (s name lent : List ℕ) where
   unfolding listAnswer
   list-is =
       same-call 8 listed
-      (λ h. ap (λ (us : List Use). listed us lent) (cut-eight used (uses-good (plate .rules) (rules-good s h) (rules-ordered s h) (prepared plate name))))
+      (λ h. ap (λ (us : List Use). listed us lent) (cut-eight used (uses-good (plate .rules) (rules-good edition1 s h) (rules-ordered edition1 s h) (prepared plate name))))
 
   -- Encode takes the first.
   pub encode-is : codeAnswer 1 s name lent ≡ encodeAnswer s name lent

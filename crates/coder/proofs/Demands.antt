@@ -27,7 +27,7 @@ use Rattle.coder.specs.Walk.{uses}
 use Rattle.coder.specs.Answer.{Coded, refusal, listing, smaller, room, listed, encoded, named, plated, listAnswer, encodeAnswer}
 use Rattle.coder.specs.Wider.{WiderItems, WiderRules}
 use Rattle.coder.specs.Given.{Given, usesIn}
-use Rattle.coder.proofs.Plates.{rules-good, rules-ordered}
+use Rattle.plate.proofs.Facts.{rules-good, rules-ordered}
 use Rattle.coder.proofs.Firsts.{goodUse, uses-good}
 use Rattle.coder.proofs.Wider.{books-wider, uses-wider}
 
@@ -105,7 +105,7 @@ filled plate name p read = all-filled (usesIn p name) (uses-good (p .rules) (goo
     go : (t : Bool) → acceptedIn edition1 plate ≡ t → cond t (some (plateAt (edition1 .width) plate)) none ≡ some p → (every goodRule (p .rules) ≡ true) × (ordered (p .rules) ≡ true)
     go true a e =
         let q = some-inj (plateAt (edition1 .width) plate) p e in
-        (subst (λ (x : Plate). every goodRule (x .rules) ≡ true) q (rules-good plate a), subst (λ (x : Plate). ordered (x .rules) ≡ true) q (rules-ordered plate a))
+        (subst (λ (x : Plate). every goodRule (x .rules) ≡ true) q (rules-good edition1 plate a), subst (λ (x : Plate). ordered (x .rules) ≡ true) q (rules-ordered edition1 plate a))
     go false a e = absurd (false≢true (ap is-some e))
       where
         is-some : Option Plate → Bool

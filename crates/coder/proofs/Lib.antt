@@ -1,6 +1,6 @@
 pub mod Longest
 pub mod Hits
-pub mod Plates
+pub mod Groups
 pub mod Patterns
 pub mod Chars
 pub mod Alternatives

@@ -1,22 +1,23 @@
 -- In a plate's order the first pattern that fits is the longest: rules of one first code point fall in byte length, and of two patterns that begin one
 -- text the shorter in characters is the shorter in bytes. Assumes nothing.
 use mathlib.Core.Path.{_≡_, refl, sym, ap, subst, _∙_}
-use mathlib.Core.Logic.{_⊎_, inl, inr, ⊎-elim}
+use mathlib.Core.Logic.{_⊎_, inl, inr}
 use mathlib.Core.Bool.{Bool, true, false, cond, _&&_, false≢true}
 use mathlib.Core.Option.{Option, none, some}
 use mathlib.Core.List.{List, [], _∷_}
 use Prim.Native.Nat.{ℕ, _<_, _≤_}
 use native.Mathlib.Nat.{le-trans}
 use native.Mathlib.Omega.{arith}
-use borrow.Author.Tests.{ltb-true, leb-true, eqb-true, le-ltb, ltb-false}
-use lib.Dec.{ltb, leb, eqb}
+use borrow.Author.Tests.{ltb-true, eqb-true, le-ltb, ltb-false}
+use lib.Dec.{ltb, eqb}
 use lib.ListN.{length, length-append}
 use Rattle.laws.specs.Lists.{In, every, keep, begins, between}
-use Rattle.laws.proofs.Tests.{and-true, or-true, between-true}
+use Rattle.laws.proofs.Tests.{and-true, between-true}
 use Rattle.laws.proofs.Members.{in-keep, in-every}
 use Rattle.chars.specs.Utf8.{bytesOf, bytesOfAll, charsOf, charOf, codeOf, isText, charsFrom}
 use Rattle.chars.proofs.Exact.{decoded-text, bytes-count}
 use Rattle.plate.specs.Plate.{Rule, goodRule, goodPattern, goodField, nonzeroByte, firstCode, mayPrecede, ordered}
+use Rattle.plate.proofs.Halves.{may-precede, ordered-tail}
 use Rattle.coder.specs.Walk.{letters, longer, longest, match}
 
 -- ---- patterns that begin one text
@@ -64,20 +65,6 @@ fits-code r c cs g b = let f = first-is r g in begins-first (letters r) (firstCo
 
 -- ---- the order
 
-may : (r q : Rule) → mayPrecede r q ≡ true → (firstCode r ≤ firstCode q) × (firstCode q ≡ firstCode r → length (q .pattern) ≤ length (r .pattern))
-may r q h =
-    ⊎-elim
-    (λ t. let k = ltb-true (firstCode r) (firstCode q) t in (omega arith, λ e. absurd (omega arith)))
-    (λ t.
-    let b = and-true (eqb (firstCode r) (firstCode q)) (leb (length (q .pattern)) (length (r .pattern))) t in
-    let e = eqb-true (firstCode r) (firstCode q) (b .0) in
-    (omega arith, λ _. leb-true (length (q .pattern)) (length (r .pattern)) (b .1)))
-    (or-true (ltb (firstCode r) (firstCode q)) (eqb (firstCode r) (firstCode q) && leb (length (q .pattern)) (length (r .pattern))) h)
-
-pub ordered-tail : (r : Rule) (more : List Rule) → ordered (r ∷ more) ≡ true → ordered more ≡ true
-ordered-tail r [] h = refl
-ordered-tail r (q ∷ more) h = and-true (mayPrecede r q) (ordered (q ∷ more)) h .1
-
 -- Behind a rule first code points never fall and, within its own, byte lengths never grow.
 abbrev Behind : Rule → Rule → Type 0
 Behind r q = (firstCode r ≤ firstCode q) × (firstCode q ≡ firstCode r → length (q .pattern) ≤ length (r .pattern))
@@ -86,7 +73,7 @@ behind : (r : Rule) (more : List Rule) → ordered (r ∷ more) ≡ true → (q 
 behind r [] h q i = absurd i
 behind r (x ∷ more) h q i =
     let b = and-true (mayPrecede r x) (ordered (x ∷ more)) h in
-    go i (may r x (b .0)) (λ m. behind x more (b .1) q m)
+    go i (may-precede r x (b .0)) (λ m. behind x more (b .1) q m)
   where
     go : (q ≡ x) ⊎ In q more → (firstCode r ≤ firstCode x) × (firstCode x ≡ firstCode r → length (x .pattern) ≤ length (r .pattern))
         → (In q more → (firstCode x ≤ firstCode q) × (firstCode q ≡ firstCode x → length (q .pattern) ≤ length (x .pattern)))

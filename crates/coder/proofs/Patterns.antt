@@ -1,12 +1,11 @@
 -- The search, one rule and one character at a time: a rule whose pattern begins the characters is taken, any other is passed, and its first character tells
 -- whether it belongs to the group. Assumes nothing.
-use Prim.Native.Nat.{ℕ, zero, suc, _+_, _-_, _≤_, _<_}
-use mathlib.Core.Path.{_≡_, refl, sym, ap, subst, _∙_}
+use Prim.Native.Nat.{ℕ, _+_, _-_, _≤_, _<_}
+use mathlib.Core.Path.{_≡_, refl, ap, _∙_}
 use mathlib.Core.Bool.{Bool, true, false, _||_}
 use mathlib.Core.List.{List, [], _∷_}
-use native.Mathlib.Nat.{zero-add}
 use native.Mathlib.Omega.{arith}
-use native.Mathlib.Numerals.{add-one, sub-one}
+use native.Mathlib.Numerals.{add-one}
 use borrow.Author.Tests.{eq-eqb, ne-eqb}
 use lib.ListN.{length, drop, getD, drop-of-length-le}
 use lib.Seq.{drop-cons}
@@ -14,14 +13,12 @@ use Rattle.laws.specs.Lists.{begins}
 use Rattle.laws.proofs.Tests.{or-false, or-right}
 use Rattle.chars.specs.Utf8.{charsFrom}
 use Rattle.plate.specs.Plate.{Rule}
-use Rattle.plate.specs.Read.{many, patternAt, ruleAt, ruleEnd}
-use Rattle.plate.specs.Stands.{Here, Stands, Mark, lettersFrom, LetterIs}
-use Rattle.plate.specs.declared.Letter.{Letter}
+use Rattle.plate.specs.Read.{patternAt, ruleAt}
+use Rattle.plate.specs.Stands.{lettersFrom}
 use Rattle.coder.specs.Walk.{letters, startsWith}
 use Rattle.coder.specs.Search.{hitFrom}
 use Rattle.coder.specs.Search.Hit.{Taken, None}
 use Rattle.coder.specs.Held.{hitAt}
-use Rattle.coder.proofs.Longest.{good-pattern}
 
 -- ---- what is left of a pattern, against the characters from place j on
 
@@ -72,39 +69,13 @@ module _ (rs : List Rule) (known : Bool) where
     miss (c ∷ cs) p ps f g d b =
         passes c cs true b (ap (startsWith c) f ∙ eq-eqb p c d) ∙ ap (λ (t : Bool). hitAt t more (c ∷ cs)) (or-right known true refl)
 
--- ---- rules where they stand
+-- ---- the characters of a pattern, from its first byte on and behind its last
 
-module _ (s : List ℕ) where
-  pub stands-here : (left at : ℕ) → (left ≡ 0 → ⊥) → Stands s left at → Here s at
-  stands-here zero at h g = absurd (h refl)
-  stands-here (suc left) at h g = g .0
+module _ (s : List ℕ) (at : ℕ) where
+  pub pattern-start : lettersFrom s at 0 ≡ letters (ruleAt s at)
+  unfolding lettersFrom
+  pattern-start = refl
 
-  pub stands-next : (left at : ℕ) → (left ≡ 0 → ⊥) → Stands s left at → (next : ℕ) → next ≡ ruleEnd s at → Stands s (left - 1) next
-  stands-next zero at h g next e = absurd (h refl)
-  stands-next (suc left) at h g next e = rw (sub-one, e) (g .1)
-
-  pub rules-next : (left at : ℕ) → (left ≡ 0 → ⊥) → (next : ℕ) → next ≡ ruleEnd s at
-      → many (ruleAt s) (ruleEnd s) left at ≡ ruleAt s at ∷ many (ruleAt s) (ruleEnd s) (left - 1) next
-  rules-next zero at h next e = absurd (h refl)
-  rules-next (suc left) at h next e = rw (sub-one, e)
-
-  pub rules-none : (left at : ℕ) → left ≡ 0 → many (ruleAt s) (ruleEnd s) left at ≡ []
-  rules-none left at e = rw e
-
-  -- The characters of a pattern, from its first byte on and behind its last.
-  module _ (at : ℕ) where
-    pub pattern-start : lettersFrom s at 0 ≡ letters (ruleAt s at)
-    unfolding lettersFrom
-    pattern-start = refl
-
-    pub mark-start : Here s at → Mark s at 0
-    unfolding Mark
-    mark-start h = good-pattern (ruleAt s at) (h .good) .0
-
-    pub pattern-end : (k : ℕ) → length (patternAt s at) ≤ k → lettersFrom s at k ≡ []
-    unfolding lettersFrom charsFrom
-    pattern-end k h = rw (drop-of-length-le (patternAt s at) h)
-
-    pub first-letter : (r : Letter) → LetterIs s at 0 r → (letters (ruleAt s at) ≡ r .code ∷ lettersFrom s at (r .width)) × Mark s at (r .width)
-    first-letter r l =
-        (sym pattern-start ∙ l .front ∙ ap (λ (k : ℕ). r .code ∷ lettersFrom s at k) (zero-add (r .width)), subst (Mark s at) (zero-add (r .width)) (l .mark))
+  pub pattern-end : (k : ℕ) → length (patternAt s at) ≤ k → lettersFrom s at k ≡ []
+  unfolding lettersFrom charsFrom
+  pattern-end k h = rw (drop-of-length-le (patternAt s at) h)

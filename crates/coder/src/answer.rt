@@ -4,6 +4,7 @@ ghost use mathlib.Core.Bool.{true};
 ghost use Prim.Native.Nat.{_+_, _*_, _/_, _≤_, _<_};
 ghost use Rattle.plate.specs.Plate.{edition1};
 ghost use Rattle.plate.specs.Read.{plateAt, acceptedIn};
+ghost use Rattle.plate.specs.Noted.{Noted};
 ghost use Rattle.coder.specs.Walk.{uses};
 ghost use Rattle.coder.specs.Answer.{smaller, listed, listAnswer, encodeAnswer};
 ghost use Rattle.coder.specs.Held.{cutAll};
@@ -14,7 +15,7 @@ use super::name::prepare;
 use super::walk::walk;
 use super::write::write;
 use chars::lower::lowers;
-use plate::accept::accept;
+use plate::accept::accept_noting;
 
 // "Room is the smaller of 64 and (buffer length + 1) divided by 7, rounded down."
 fn room_of(n: usize) -> usize
@@ -26,11 +27,18 @@ fn room_of(n: usize) -> usize
 }
 
 // The codes of some characters, written into the buffer if there is room.
-fn code_chars(plate: &[u8], chars: &[u32], out: &mut [u8], most: usize) -> Coded
-    requires { ⌜ acceptedIn edition1 (now plate) ≡ true ⌝ }
+fn code_chars(
+    plate: &[u8],
+    places: &[u32],
+    groups: &[u32],
+    chars: &[u32],
+    out: &mut [u8],
+    most: usize,
+) -> Coded
+    requires { ⌜ (acceptedIn edition1 (now plate) ≡ true) × Noted (edition1 .width) (now plate) (now places) (now groups) ⌝ }
     ensures { λ r. ⌜ Tells (listed (cutAll most (uses (plateAt (edition1 .width) (now (plate .entry)) .rules) (now (chars .entry)))) (now (out .entry))) r (now (out .exit)) ⌝ }
 {
-    let walked = walk(plate, chars, most, room_of(out.len()));
+    let walked = walk(plate, places, groups, chars, most, room_of(out.len()));
     if walked.over {
         return Coded::RoomTooSmall;
     }
@@ -43,7 +51,9 @@ fn code_chars(plate: &[u8], chars: &[u32], out: &mut [u8], most: usize) -> Coded
 fn code_name(plate: &[u8], name: &[u8], out: &mut [u8], most: usize) -> Coded
     ensures { λ r. ⌜ Tells (codeAnswer most (now (plate .entry)) (now (name .entry)) (now (out .entry))) r (now (out .exit)) ⌝ }
 {
-    if !accept(plate) {
+    let mut places = [0u32; 512];
+    let mut groups = [0u32; 384];
+    if !accept_noting(plate, &mut places, &mut groups) {
         return Coded::NotAPlate;
     }
     let t = lowers();
@@ -62,7 +72,7 @@ fn code_name(plate: &[u8], name: &[u8], out: &mut [u8], most: usize) -> Coded
         Fault::None => {
             let chars = p.chars;
             let n = p.count;
-            return code_chars(plate, &chars[..n], out, most);
+            return code_chars(plate, &places, &groups, &chars[..n], out, most);
         }
     }
 }

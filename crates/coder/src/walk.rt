@@ -5,6 +5,7 @@ ghost use Prim.Native.Nat.{_<_, _≤_};
 ghost use lib.ListN.{length, drop};
 ghost use Rattle.plate.specs.Plate.{edition1};
 ghost use Rattle.plate.specs.Read.{plateAt, acceptedIn};
+ghost use Rattle.plate.specs.Noted.{Noted};
 ghost use Rattle.coder.specs.Walk.{vowelFollows, forced, uses};
 ghost use Rattle.coder.specs.Held.{hitAt, FoundIs, beforeOf, whichField, cutAll, Walked};
 use super::Found;
@@ -12,33 +13,26 @@ use branches::Branches;
 use branches::Stepped;
 use chars::Next;
 use chars::letters::is_vowel;
+use plate::note::group_of;
 use plate::read;
 
-// "Otherwise take the longest pattern that begins here; of equal patterns the first. The search stops at that rule." Within a first character patterns
-// stand longest first, so the first that fits is taken.
-fn search(plate: &[u8], rest: &[u32]) -> Found
-    requires { ⌜ (acceptedIn edition1 (now plate) ≡ true) × (0 < length (now rest)) ⌝ }
+// "Otherwise take the longest pattern that begins here; of equal patterns the first. The search stops at that rule." Only the rules of the character's
+// group are looked at. Within a first character patterns stand longest first, so the first that fits is taken.
+fn search(plate: &[u8], places: &[u32], groups: &[u32], rest: &[u32]) -> Found
+    requires { ⌜ (acceptedIn edition1 (now plate) ≡ true) × Noted (edition1 .width) (now plate) (now places) (now groups) × (0 < length (now rest)) ⌝ }
     ensures { λ r. ⌜ FoundIs (now (plate .entry)) (hitAt false (plateAt (edition1 .width) (now (plate .entry)) .rules) (now (rest .entry))) r ⌝ }
 {
-    let c = rest[0];
-    let mut known = false;
-    let mut at = read::first_place(plate);
-    let mut left = read::rule_count(plate);
+    let group = group_of(plate, places, groups, rest[0]);
+    let mut i = group.first;
     'rules: loop {
-        if left == 0 {
-            break 'rules Found::Nothing(known);
+        if group.behind <= i {
+            break 'rules Found::Nothing(group.first < group.behind);
         }
-        let here = at;
+        let here = places[i] as usize;
+        i += 1;
         let n = read::pattern_length(plate, here);
-        at = read::next_place(plate, here);
-        left -= 1;
-        let first = read::pattern_char(plate, here, 0);
-        if first.code != c {
-            continue 'rules;
-        }
-        known = true;
-        let mut k = first.width;
-        let mut j: usize = 1;
+        let mut k: usize = 0;
+        let mut j: usize = 0;
         'bytes: loop {
             if n <= k {
                 break 'rules Found::At(here, j);
@@ -100,8 +94,15 @@ fn walked(next: Branches, over: bool) -> Stepped
 }
 
 // The branches along a name; or that they are more than there is room for, "at the start or after some step".
-pub(crate) fn walk(plate: &[u8], name: &[u32], most: usize, room: usize) -> Stepped
-    requires { ⌜ (acceptedIn edition1 (now plate) ≡ true) × (room ≤ 64) ⌝ }
+pub(crate) fn walk(
+    plate: &[u8],
+    places: &[u32],
+    groups: &[u32],
+    name: &[u32],
+    most: usize,
+    room: usize,
+) -> Stepped
+    requires { ⌜ (acceptedIn edition1 (now plate) ≡ true) × Noted (edition1 .width) (now plate) (now places) (now groups) × (room ≤ 64) ⌝ }
     ensures { λ r. ⌜ Walked room (cutAll most (uses (plateAt (edition1 .width) (now (plate .entry)) .rules) (now (name .entry)))) r ⌝ }
 {
     let mut bs = branches::start();
@@ -113,7 +114,7 @@ pub(crate) fn walk(plate: &[u8], name: &[u32], most: usize, room: usize) -> Step
     let mut at: usize = 0;
     while at < name.len() {
         let c = name[at];
-        match search(plate, &name[at..]) {
+        match search(plate, places, groups, &name[at..]) {
             Found::Nothing(known) => {
                 at += 1;
                 if known {

@@ -18,7 +18,8 @@ use Rattle.rule_text.specs.Fields.{digit, isAlternative}
 use Rattle.plate.specs.Bits.{numberAt}
 use Rattle.plate.specs.Plate.{Folding, Rule, Edition, mostFoldings, goodField, goodPattern, goodRule, nonzeroScalar, goodFolding, rising, firstCode, ordered}
 use Rattle.plate.specs.Read.{many, past, alternativeAt, alternativeEnd, fieldAt, fieldEnd, ruleAt, ruleEnd, foldingAt, foldingEnd, ruleCount, foldingCount, reserved, rulesPlace, plateAt, plateEnd, closed, acceptedIn}
-use Rattle.plate.specs.Answers.{bytesAt, codeIf, firstOf, stepIf, lastDigits, alternativeStep, alternativesStep, fieldStep, fieldsStep, seenIf, inOrder, ruleFits, ruleSeen, follow, rulesStep, above, foldingsGood, edition}
+use Rattle.plate.specs.Answers.{bytesAt, codeIf, firstOf, stepIf, upTo, lastDigits, alternativeStep, alternativesStep, fieldStep, fieldsStep, seenIf, inOrder, ruleFits, ruleSeen, follow, rulesStep, above, foldingsGood, edition}
+use Rattle.plate.specs.Window.{Holds}
 use Rattle.plate.specs.declared.Step.{Step}
 use Rattle.plate.specs.declared.Step.the-variants.{To, Nowhere}
 use Rattle.plate.specs.declared.First as First
@@ -80,7 +81,7 @@ abbrev isGood : Seen → Bool
 isGood (Good c n at) = true
 isGood Wrong = false
 
-good : {r : Seen} (t : Bool) (c n k c′ n′ k′ : ℕ) → r ≡ seenIf t c n k → r ≡ Good c′ n′ k′ → (t ≡ true) × (c ≡ c′) × (n ≡ n′) × (k ≡ k′)
+pub good : {r : Seen} (t : Bool) (c n k c′ n′ k′ : ℕ) → r ≡ seenIf t c n k → r ≡ Good c′ n′ k′ → (t ≡ true) × (c ≡ c′) × (n ≡ n′) × (k ≡ k′)
 good true c n k c′ n′ k′ e f = (refl, ap seenCode (sym e ∙ f), ap seenLength (sym e ∙ f), ap seenPlace (sym e ∙ f))
 good false c n k c′ n′ k′ e f = absurd (false≢true (ap isGood (sym e ∙ f)))
 
@@ -206,6 +207,40 @@ module _ (s : List ℕ) where
         ap (λ (t : Bool). stepIf t (past (alternativeEnd s) n (at + 4)))
         (sym (and-holds _ (every isAlternative (many (alternativeAt s) (alternativeEnd s) n (at + 4))) (between-in (alternativeAt s) (alternativeEnd s) n (at + 4) 8 h g)))
         ∙ ap fieldOf e
+
+    -- A single alternative decides.
+    pub field-one : n ≡ 1 → (r : Step) → r ≡ alternativeStep s (at + 4) → r ≡ fieldStep s at
+    field-one h r f =
+        f ∙ sym (ap (λ (t : Bool). stepIf t (alternativeEnd s (at + 4))) (and-right-holds (isAlternative (alternativeAt s (at + 4))) true refl))
+        ∙ ap (λ (k : ℕ). alternativesStep s k (at + 4)) (sym h) ∙ field-is (omega arith) (omega arith)
+
+  -- ---- shapes in front of a window, by ranges
+
+  -- A field of one alternative of one digit: 0001, 001, and a digit of 0 to 9.
+  pub digit-field : (at w : ℕ) → Holds s at 11 w → 1297036692682702848 ≤ w → w < 1387108685230112768 → To (at + 11) ≡ fieldStep s at
+  digit-field at w h low high =
+      let n = numberAt s at 11 in
+      let count = numberAt s at 4 in
+      let behind = numberAt s (at + 4) 7 in
+      let digits = numberAt s (at + 4) 3 in
+      let d = numberAt s (at + 4 + 3) 4 in
+      let whole : n ≡ count * 128 + behind = number-append s at 4 7 in
+      let parts : behind ≡ digits * 16 + d = number-append s (at + 4) 3 4 in
+      let behind-lt : behind < 128 = number-lt s (at + 4) 7 in
+      let d-lt : d < 16 = number-lt s (at + 4 + 3) 4 in
+      let range : (144 ≤ n) × (n ≤ 153) = (omega (arith, h, low), omega (arith, h, high)) in
+      let one : count ≡ 1 = omega (arith, whole, behind-lt, range .0, range .1) in
+      let left : (16 ≤ behind) × (behind ≤ 25) = (omega (arith, whole, one, range .0), omega (arith, whole, one, range .1)) in
+      let single : digits ≡ 1 = omega (arith, parts, d-lt, left .0, left .1) in
+      let decimal : d % 16 ≤ 9 = omega (arith, parts, single, left .1, d-lt) in
+      ap To {x = at + 11} {y = at + 4 + 3 + 4 * 1} (omega arith)
+      ∙ field-one at 1 (sym one) refl (To (at + 4 + 3 + 4 * 1))
+      (alternative-is (at + 4) 1 (sym single) (omega arith) d refl true (sym (and-holds (leb (d % 16) 9) true (le-leb (d % 16) 9 decimal))) refl)
+
+-- No further than a place is no further than a later one.
+pub up-further : (r : Step) (m n : ℕ) → m ≤ n → upTo r m → upTo r n
+up-further (To at) m n h g = omega arith
+up-further Nowhere m n h g = omega arith
 
 -- Three steps in a row, each from where the one before ended.
 module _ (g : ℕ → Bool) (end : ℕ → ℕ) (a : ℕ) where

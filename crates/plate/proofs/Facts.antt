@@ -28,12 +28,17 @@ module _ (e : Edition) (s : List ℕ) (h : acceptedIn e s ≡ true) where
       let c = and-true (eqb (reserved (e .width) s) 0) (goodPlate e p && z) (b .1) in
       and-true (goodPlate e p) z (c .1) .0
 
-  rules-good : every goodRule (plateAt (e .width) s .rules) ≡ true
-  rules-good =
-      let rs = plateAt (e .width) s .rules in
-      let b = and-true (goodRules (e .most) rs) (goodFoldings (plateAt (e .width) s .foldings)) says-good in
-      let c = and-true (leb (length rs) (e .most)) (every goodRule rs && ordered rs) (b .0) in
-      and-true (every goodRule rs) (ordered rs) (c .1) .0
+  rules-fit : every goodRule (plateAt (e .width) s .rules) && ordered (plateAt (e .width) s .rules) ≡ true
+  rules-fit =
+      let p = plateAt (e .width) s in
+      let b = and-true (goodRules (e .most) (p .rules)) (goodFoldings (p .foldings)) says-good in
+      and-true (leb (length (p .rules)) (e .most)) (every goodRule (p .rules) && ordered (p .rules)) (b .0) .1
+
+  pub rules-good : every goodRule (plateAt (e .width) s .rules) ≡ true
+  rules-good = let rs = plateAt (e .width) s .rules in and-true (every goodRule rs) (ordered rs) rules-fit .0
+
+  pub rules-ordered : ordered (plateAt (e .width) s .rules) ≡ true
+  rules-ordered = let rs = plateAt (e .width) s .rules in and-true (every goodRule rs) (ordered rs) rules-fit .1
 
   pub keys-rise : rising (plateAt (e .width) s .foldings) ≡ true
   keys-rise =

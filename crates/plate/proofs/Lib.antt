@@ -6,6 +6,8 @@ pub mod Round
 pub mod Windows
 pub mod Fronts
 pub mod Accepted
+pub mod Noting
+pub mod Halves
 pub mod Parts
 pub mod Only
 pub mod Sorted

@@ -9,7 +9,7 @@ use Rattle.laws.proofs.Only.{only}
 use Rattle.chars.specs.Utf8.{charOf}
 use Rattle.plate.specs.Bits.{numberAt}
 use Rattle.plate.specs.Plate.{edition1}
-use Rattle.plate.specs.Read.{patternAt, ruleAt, ruleEnd, foldingAt, foldBy, ruleCount, rulesPlace, plateAt, acceptedIn}
+use Rattle.plate.specs.Read.{patternAt, ruleAt, foldingAt, foldBy, ruleCount, rulesPlace, plateAt, acceptedIn}
 use Rattle.plate.specs.Answers.{bytesAt, frontOf, frontTo, goodText}
 use Rattle.plate.specs.Stands.{Stands, LetterIs, fieldOf, heldField}
 use Rattle.plate.specs.declared.Front.{Front}
@@ -42,12 +42,6 @@ module _ (s : List ℕ) where
   pub rule-count : (r r′ : ℕ) → (r ≡ ruleCount (edition1 .width) s) × Stands s r (rulesPlace (edition1 .width) s)
       → (r′ ≡ ruleCount (edition1 .width) s) × Stands s r′ (rulesPlace (edition1 .width) s) → r ≡ r′
   rule-count r r′ e f = only (e .0) (f .0)
-
-  pub first-place : (r r′ : ℕ) → r ≡ rulesPlace (edition1 .width) s → r′ ≡ rulesPlace (edition1 .width) s → r ≡ r′
-  first-place r r′ e f = only e f
-
-  pub next-place : (at r r′ : ℕ) → r ≡ ruleEnd s at → r′ ≡ ruleEnd s at → r ≡ r′
-  next-place at r r′ e f = only e f
 
   pub pattern-length : (at r r′ : ℕ) → (r ≡ length (patternAt s at)) × (0 < r) × (r ≤ 16) → (r′ ≡ length (patternAt s at)) × (0 < r′) × (r′ ≤ 16) → r ≡ r′
   pattern-length at r r′ e f = only (e .0) (f .0)

@@ -132,6 +132,14 @@ module _ (s : List ℕ) where
         (and-true (goodPattern (ruleAt s at .pattern)) (goodField (ruleAt s at .start) && (goodField (ruleAt s at .vowel) && goodField (ruleAt s at .other))) (here .good) .0)
         .1
 
+    -- A pattern has a byte, and a character begins at its first.
+    pub pattern-some : 0 < length (patternAt s at)
+    pattern-some = let c = pattern-count (numberAt s at 5) refl in omega (arith, c .0, c .1)
+
+    pub mark-start : Mark s at 0
+    unfolding Mark
+    mark-start = and-true (every nonzeroByte (patternAt s at)) (isText (patternAt s at)) pattern-text .1
+
     module _ (k : ℕ) (mark : Mark s at k) (h : k < length (patternAt s at)) where
       abbrev rest : List ℕ
       rest = drop k (patternAt s at)

@@ -7,3 +7,5 @@ pub mod Worked
 pub mod Answers
 pub mod Stands
 pub mod Field
+pub mod Window
+pub mod Noted

@@ -1,25 +1,34 @@
 // Which bytes are a plate, in one pass from the front: the place behind each part is where the next begins.
 // The bounds on places are for 1,500 rules: by the widths of its counts a rule that is accepted has at most 913 bits.
 ghost use mathlib.Core.Path.{_≡_};
-ghost use mathlib.Core.Bool.{_&&_};
-ghost use Prim.Native.Nat.{_+_, _*_, _≤_, _<_};
+ghost use mathlib.Core.Bool.{true, _&&_};
+ghost use mathlib.Core.List.{List};
+ghost use Prim.Native.Nat.{ℕ, _+_, _*_, _≤_, _<_};
 ghost use lib.Dec.{ltb};
+ghost use lib.ListN.{length, replicate};
 ghost use Rattle.plate.specs.Bits.{numberAt};
 ghost use Rattle.plate.specs.Plate.{nonzeroScalar, goodFolding, edition1};
 ghost use Rattle.plate.specs.Read.{foldingAt, closed, acceptedIn};
+ghost use Rattle.plate.specs.Window.{Holds};
 ghost use Rattle.plate.specs.Answers.{bytesAt, lastDigits, upTo, alternativeStep, fieldStep, fieldsStep, firstOf, inOrder, ruleSeen, seenTo, rulesStep, foldingsGood, edition};
+ghost use Rattle.plate.specs.Noted.{NotedTo, NotedIf};
+ghost use Rattle.plate.specs.declared.Step.the-variants.{To};
 use super::First;
 use super::Front;
 use super::Seen;
 use super::Step;
 use super::bits::bits;
 use super::bits::count;
+use super::note::group_start;
+use super::note::note_group;
 use super::pattern;
 use super::reader;
+use super::window::part;
+use super::window::window;
 use chars::utf8;
 
 // The last n digits of a number, four bits each, are 0 to 9.
-fn accept_digits(number: u32, n: usize) -> bool
+fn accept_digits(number: u64, n: usize) -> bool
     ensures { λ r. ⌜ r ≡ lastDigits n number ⌝ }
 {
     let mut rest = number;
@@ -34,27 +43,52 @@ fn accept_digits(number: u32, n: usize) -> bool
     true
 }
 
-// An alternative, all its digits in one read.
-fn accept_alternative(plate: &[u8], at: usize) -> Step
+// The alternative at a place, of whose bits 27 stand in front of a window.
+fn alternative_in(w: u64, at: usize) -> Step
     requires { ⌜ at ≤ 4000000 ⌝ }
-    ensures { λ r. ⌜ (r ≡ alternativeStep (now (plate .entry)) at) × upTo r (at + 27) ⌝ }
+    ensures { λ r. ⌜ upTo r (at + 27) × ((s : List ℕ) → Holds s at 27 w → r ≡ alternativeStep s at) ⌝ }
 {
-    let n = count(plate, at, 3);
+    let n = part(w, 0, 3) as usize;
     if 6 < n {
         return Step::Nowhere;
     }
-    if accept_digits(bits(plate, at + 3, 4 * n), n) {
+    if accept_digits(part(w, 3, 4 * n), n) {
         return Step::To(at + 3 + 4 * n);
     }
     Step::Nowhere
 }
 
-// A field: its count, then its alternatives.
+// An alternative, all of it in one window.
+fn accept_alternative(plate: &[u8], at: usize) -> Step
+    requires { ⌜ at ≤ 4000000 ⌝ }
+    ensures { λ r. ⌜ (r ≡ alternativeStep (now (plate .entry)) at) × upTo r (at + 27) ⌝ }
+{
+    alternative_in(window(plate, at), at)
+}
+
+// A field of one alternative of one digit stands in front of a window: 0001, 001, and a digit of 0 to 9.
+fn is_digit(w: u64) -> bool
+    ensures { λ r. ⌜ (r ≡ true → (s : List ℕ) (at : ℕ) → Holds s at 11 w → To (at + 11) ≡ fieldStep s at) ⌝ }
+{
+    if w < 0x1200000000000000 {
+        return false;
+    }
+    w < 0x1340000000000000
+}
+
+// A field: its count, then its alternatives. Most have one, which stands in the same window.
 fn accept_field(plate: &[u8], at: usize) -> Step
     requires { ⌜ at ≤ 3000000 ⌝ }
     ensures { λ r. ⌜ (r ≡ fieldStep (now (plate .entry)) at) × upTo r (at + 220) ⌝ }
 {
-    let n = count(plate, at, 4);
+    let w = window(plate, at);
+    if is_digit(w) {
+        return Step::To(at + 11);
+    }
+    let n = part(w, 0, 4) as usize;
+    if n == 1 {
+        return alternative_in(w << 4, at + 4);
+    }
     if n < 1 {
         return Step::Nowhere;
     }
@@ -141,21 +175,25 @@ fn accept_rule(plate: &[u8], at: usize, c: u32, n: usize) -> Seen
     Seen::Wrong
 }
 
-// The n rules from a place on.
-fn accept_rules(plate: &[u8], from: usize, n: usize) -> Step
-    requires { ⌜ (from ≤ 20000) × (n ≤ 1500) ⌝ }
-    ensures { λ r. ⌜ (r ≡ rulesStep (now (plate .entry)) from n 0 0) × upTo r (from + 913 * n) ⌝ }
+// The n rules from a place on; each is noted as it is accepted. The present group is noted anew at every rule, so that none is left over at the end.
+fn accept_rules(plate: &[u8], from: usize, n: usize, places: &mut [u32], groups: &mut [u32]) -> Step
+    requires { ⌜ (from ≤ 20000) × (n ≤ 1500) × (n ≤ length (now places)) × (now groups ≡ replicate 384 0) ⌝ }
+    ensures { λ r. ⌜ (r ≡ rulesStep (now (plate .entry)) from n 0 0) × upTo r (from + 913 * n) × NotedTo r (now (plate .entry)) from n (now (places .exit)) (now (groups .exit)) ⌝ }
 {
     let mut at = from;
-    let mut left = n;
+    let mut i: usize = 0;
+    let mut begun: usize = 0;
     let mut code: u32 = 0;
     let mut length: usize = 0;
-    while 0 < left {
+    while i < n {
         let Seen::Good(c, k, next) = accept_rule(plate, at, code, length) else {
             return Step::Nowhere;
         };
+        places[i] = at as u32;
+        begun = group_start(code, begun, c, i);
+        note_group(groups, c, begun, i);
+        i += 1;
         at = next;
-        left -= 1;
         code = c;
         length = k;
     }
@@ -217,10 +255,17 @@ fn is_closed(plate: &[u8], end: usize) -> bool
     false
 }
 
-// The bytes are a plate of an edition: its number, the width of its rule count, and the most rules.
-fn accept_in(plate: &[u8], number: u32, width: usize, most: usize) -> bool
-    requires { ⌜ (width ≤ 15) × (most ≤ 1500) ⌝ }
-    ensures { λ r. ⌜ r ≡ acceptedIn (edition number width most) (now (plate .entry)) ⌝ }
+// The bytes are a plate of an edition (its number, the width of its rule count, and the most rules); if so, its rules are noted.
+fn accept_in(
+    plate: &[u8],
+    number: u32,
+    width: usize,
+    most: usize,
+    places: &mut [u32],
+    groups: &mut [u32],
+) -> bool
+    requires { ⌜ (width ≤ 15) × (most ≤ 1500) × (most ≤ length (now places)) × (now groups ≡ replicate 384 0) ⌝ }
+    ensures { λ r. ⌜ (r ≡ acceptedIn (edition number width most) (now (plate .entry))) × NotedIf r width (now (plate .entry)) (now (places .exit)) (now (groups .exit)) ⌝ }
 {
     if bits(plate, 0, 8) != number {
         return false;
@@ -237,7 +282,7 @@ fn accept_in(plate: &[u8], number: u32, width: usize, most: usize) -> bool
         return false;
     }
     if accept_foldings(plate, m) {
-        let Step::To(end) = accept_rules(plate, 32 + 42 * m, n) else {
+        let Step::To(end) = accept_rules(plate, 32 + 42 * m, n, places, groups) else {
             return false;
         };
         return is_closed(plate, end);
@@ -245,9 +290,19 @@ fn accept_in(plate: &[u8], number: u32, width: usize, most: usize) -> bool
     false
 }
 
+// The bytes are a plate; if so, its rules are noted.
+pub fn accept_noting(plate: &[u8], places: &mut [u32], groups: &mut [u32]) -> bool
+    requires { ⌜ (512 ≤ length (now places)) × (now groups ≡ replicate 384 0) ⌝ }
+    ensures { λ r. ⌜ (r ≡ acceptedIn edition1 (now (plate .entry))) × NotedIf r (edition1 .width) (now (plate .entry)) (now (places .exit)) (now (groups .exit)) ⌝ }
+{
+    accept_in(plate, 1, 10, 512, places, groups)
+}
+
 // The bytes are a plate.
 pub fn accept(plate: &[u8]) -> bool
     ensures { λ r. ⌜ r ≡ acceptedIn edition1 (now (plate .entry)) ⌝ }
 {
-    accept_in(plate, 1, 10, 512)
+    let mut places = [0u32; 512];
+    let mut groups = [0u32; 384];
+    accept_noting(plate, &mut places, &mut groups)
 }

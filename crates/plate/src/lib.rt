@@ -1,7 +1,9 @@
 // The plate: its bits, which bytes are one, reading a rule or a folding at a bit place. What build writes stands in specs/ here, the code that writes it in the crate builder.
 pub mod bits; // bits.rt: the number that bits at a place write
+mod window; // window.rt: sixty-four bits at once
 pub mod reader; // reader.rt: the bit reader
 pub mod pattern; // pattern.rt: a pattern's characters
+pub mod note; // note.rt: what is noted of the rules of a plate while it is accepted
 pub mod accept; // accept.rt: which bytes are a plate
 pub mod read; // read.rt: what an accepted plate says, part by part
 
@@ -27,6 +29,12 @@ pub enum First {
 pub enum Seen {
     Good(u32, usize, usize),
     Wrong,
+}
+
+// The rules of a character's group by their numbers: the first, and the one behind the last.
+pub struct Group {
+    pub first: usize,
+    pub behind: usize,
 }
 
 // A character of a pattern, and its width in bytes.

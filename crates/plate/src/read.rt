@@ -6,7 +6,7 @@ ghost use Prim.Native.Nat.{_+_, _≤_, _<_};
 ghost use lib.ListN.{length, take};
 ghost use Rattle.rule_text.specs.Fields.{isAlternative};
 ghost use Rattle.plate.specs.Plate.{edition1};
-ghost use Rattle.plate.specs.Read.{alternativeAt, fieldEnd, patternAt, ruleAt, ruleEnd, foldBy, ruleCount, rulesPlace, plateAt, acceptedIn};
+ghost use Rattle.plate.specs.Read.{alternativeAt, fieldEnd, patternAt, ruleAt, foldBy, ruleCount, rulesPlace, plateAt, acceptedIn};
 ghost use Rattle.plate.specs.Stands.{Here, Stands, Mark, LetterIs, fieldOf, fieldPlace, held, heldField};
 use super::Alternative;
 use super::Field;
@@ -52,13 +52,6 @@ pub fn rule_count(plate: &[u8]) -> usize
     count(plate, 8, 10)
 }
 
-// The place of the first rule.
-pub fn first_place(plate: &[u8]) -> usize
-    ensures { λ r. ⌜ r ≡ rulesPlace (edition1 .width) (now (plate .entry)) ⌝ }
-{
-    32 + 42 * count(plate, 18, 8)
-}
-
 // The place behind the field at a place. Its count and the digit count of its first alternative are read at once, and most fields have no other.
 fn field_end(plate: &[u8], at: usize) -> usize
     requires { ⌜ at ≤ 4000000 ⌝ }
@@ -91,14 +84,6 @@ fn field_place(plate: &[u8], at: usize, which: usize) -> usize
         return vowel;
     }
     field_end(plate, vowel)
-}
-
-// The place of the rule behind the one at a place.
-pub fn next_place(plate: &[u8], at: usize) -> usize
-    requires { ⌜ Here (now plate) at ⌝ }
-    ensures { λ r. ⌜ r ≡ ruleEnd (now (plate .entry)) at ⌝ }
-{
-    field_end(plate, field_place(plate, at, 2))
 }
 
 // The pattern's length in bytes.

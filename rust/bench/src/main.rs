@@ -4,6 +4,7 @@
 //! work. Its source missing, its columns are empty.
 //!
 //! `bench [SECONDS]`: how long each figure is measured (0.2). Run it in release.
+//! `bench once [WHAT]`: no clock; the surnames once by one side, for a tool that counts instructions (../instructions).
 
 mod stack;
 
@@ -143,11 +144,29 @@ fn accept(seconds: f64, words: &str, rules: &Rules) {
     row(words, in_turns(seconds, 1, here(Call::Encode, rules, &empty), None::<fn()>));
 }
 
+/// One piece of work for each name, and nothing that reads the clock; without a word nothing, so that the difference counts.
+fn once(what: Option<&str>, rules: &Rules, names: &[String]) {
+    let empty = vec![String::new(); names.len()];
+    match (what, &rules.coder) {
+        (None, _) => {}
+        (Some("list"), _) => here(Call::List, rules, names)(),
+        (Some("encode"), _) => here(Call::Encode, rules, names)(),
+        (Some("accept"), _) => here(Call::Encode, rules, &empty)(),
+        (Some("rust-list"), Some(coder)) => there(Call::List, coder, names)(),
+        (Some("rust-encode"), Some(coder)) => there(Call::Encode, coder, names)(),
+        (Some(what), _) => panic!("nothing is called {what}, or the crate's source is missing"),
+    }
+}
+
 fn main() {
-    let seconds = std::env::args().nth(1).map_or(0.2, |word| word.parse().expect("SECONDS is a number"));
+    let word = std::env::args().nth(1);
     let mut random = Random::new(1);
     let names: Vec<String> = (0..2_000).map(|_| made::surname(&mut random)).collect();
     let standard = from_text("standard rules", STANDARD);
+    if word.as_deref() == Some("once") {
+        return once(std::env::args().nth(2).as_deref(), &standard, &names);
+    }
+    let seconds = word.map_or(0.2, |word| word.parse().expect("SECONDS is a number"));
     let small = from_text("small text S", SMALL);
 
     head("a name, standard rules, 2,000 made surnames");

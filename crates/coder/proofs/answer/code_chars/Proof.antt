@@ -19,13 +19,13 @@ walk-requires c κs = search needs
 
 returns : tie.Need-returns
 returns c =
-    let a = c .before .before .before .before .before .before .args in
+    let a = c .before .before .before .before .before .before .before .before .args in
     let us = cutAll (a .most) (uses (plateAt (edition1 .width) (a .plate .now) .rules) (a .chars .now)) in
     parts _ _ _ _ (too-many us (a .out .now) (c .before .before .room-of .result) (c .before .before .room-of .ensures .0) (c .before .walk .result .over) (branchesOf (c .before .walk .result .next)) (c .before .walk .ensures .1) (c .if1 .taken))
 
 write-requires : tie.Need-write-requires
 write-requires c κs =
-    let a = c .before .before .before .before .before .before .before .before .args in
+    let a = c .before .before .before .before .before .before .before .before .before .before .args in
     let us = cutAll (a .most) (uses (plateAt (edition1 .width) (a .plate .now) .rules) (a .chars .now)) in
     let r = c .before .before .before .before .room-of .ensures in
     let bs = c .before .before .before .walk .result .next in
@@ -40,7 +40,7 @@ same-length c = search needs
 
 returns-2 : tie.Need-returns-2
 returns-2 c =
-    let a = c .before .before .before .before .before .before .before .before .before .before .before .args in
+    let a = c .before .before .before .before .before .before .before .before .before .before .before .before .before .args in
     let us = cutAll (a .most) (uses (plateAt (edition1 .width) (a .plate .now) .rules) (a .chars .now)) in
     let bs = c .before .before .before .before .before .before .walk .result .next in
     let w = c .before .before .before .before .before .before .walk .ensures in

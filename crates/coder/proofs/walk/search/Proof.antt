@@ -1,177 +1,231 @@
--- `walk::search` meets its contract. The loop over rules keeps: the search from here on, over the rules left, is the search over all. The loop over a pattern's
--- bytes keeps: what is left of the pattern begins the characters left exactly if the whole pattern begins them all. A rule passed is Patterns.other or
--- Patterns.miss, the rule taken Patterns.hit. Assumes nothing.
-use Prim.Native.Nat.{_+_, _-_, _≤_, _<_}
+-- `walk::search` meets its contract. The loop over the group's rules keeps Groups.Left: the search from here on, in the group, is the search over all rules.
+-- The loop over a pattern's bytes keeps: what is left of the pattern begins the characters left exactly if the whole pattern begins them all. Assumes nothing.
+use Prim.Native.Nat.{ℕ, _+_, _-_, _≤_, _<_}
 use mathlib.Core.Path.{_≡_, sym, ap, _∙_}
-use mathlib.Core.Bool.{true, false}
-use mathlib.Core.List.{_∷_}
+use mathlib.Core.Bool.{false}
+use mathlib.Core.List.{List}
+use native.Mathlib.Nat.{zero-add}
 use native.Mathlib.Omega.{arith}
 use lib.ListN.{length, drop, getD}
 use Rattle.laws.specs.Lists.{begins}
-use Rattle.plate.specs.Plate.{edition1}
-use Rattle.plate.specs.Read.{many, patternAt, ruleAt, ruleEnd, plateAt}
-use Rattle.plate.specs.Stands.{Here, Stands, Mark, lettersFrom}
+use Rattle.plate.specs.Read.{patternAt, ruleAt}
+use Rattle.plate.specs.Stands.{Here, Mark, lettersFrom}
+use Rattle.plate.proofs.Parts.{mark-start}
 use Rattle.coder.specs.Walk.{letters}
-use Rattle.coder.specs.Held.{hitAt}
-use Rattle.coder.proofs.Patterns.{all, ends, differs, agrees, hit-end, hit, other, miss, stands-here, stands-next, rules-next, rules-none, mark-start, pattern-end, first-letter}
+use Rattle.coder.proofs.Groups.{Left, left-start, left-end, left-hit, left-miss, has-place, stands, one-letter}
+use Rattle.coder.proofs.Patterns.{all, ends, differs, agrees, pattern-start, pattern-end}
 use Rattle.coder.proofs.walk.search.Statement.{statement}
 use Rattle.coder.proofs.walk.search.Tie as tie
 
 abbrev Inv-bytes : tie.InvT-bytes
-Inv-bytes plate rest c known at left here n k₀ j₀ k j =
-    (1 ≤ j) × (j ≤ k) × (k ≤ n) × Mark plate here k × (j + length (lettersFrom plate here k) ≡ length (letters (ruleAt plate here)))
+Inv-bytes plate places groups rest group i here n k₀ j₀ k j =
+    (j ≤ k) × (k ≤ n) × Mark plate here k × (j + length (lettersFrom plate here k) ≡ length (letters (ruleAt plate here)))
     × (begins (lettersFrom plate here k) (drop j rest) ≡ begins (letters (ruleAt plate here)) rest)
 
 abbrev μ-bytes : tie.MeasureT-bytes
-μ-bytes plate rest c known at left here n k₀ j₀ k j = n - k
+μ-bytes plate places groups rest group i here n k₀ j₀ k j = n - k
 
 abbrev Inv-rules : tie.InvT-rules
-Inv-rules plate rest c known₀ at₀ left₀ known at left =
-    Stands plate left at × (hitAt known (many (ruleAt plate) (ruleEnd plate) left at) rest ≡ hitAt false (plateAt (edition1 .width) plate .rules) rest)
+Inv-rules plate places groups rest group i₀ i = Left plate places rest (group .first) (group .behind) i
 
 abbrev μ-rules : tie.MeasureT-rules
-μ-rules plate rest c known₀ at₀ left₀ known at left = left
+μ-rules plate places groups rest group i₀ i = group .behind - i
 
--- A rule stands here.
-here : (c : tie.Else1 Inv-bytes μ-bytes Inv-rules μ-rules) → Here (c .before .before .before .before .before .before .before .args .plate .now) (c .before .rules .at)
-here c = stands-here _ _ _ (c .if1 .left) (c .before .rules .inv .0)
+-- ---- what was lent, and the rule whose turn it is, seen from behind the call of group_of and from behind the loop's test
 
--- The others stand behind it.
-next : (c : tie.After-next-place Inv-bytes μ-bytes Inv-rules μ-rules) → Stands (c .before .before .before .before .before .before .before .before .before .args .plate .now) (c .before .before .before .rules .left - 1) (c .next-place .result)
-    × (many (ruleAt (c .before .before .before .before .before .before .before .before .before .args .plate .now)) (ruleEnd (c .before .before .before .before .before .before .before .before .before .args .plate .now)) (c .before .before .before .rules .left) (c .before .before .before .rules .at)
-    ≡ ruleAt (c .before .before .before .before .before .before .before .before .before .args .plate .now) (c .before .before .before .rules .at) ∷ many (ruleAt (c .before .before .before .before .before .before .before .before .before .args .plate .now)) (ruleEnd (c .before .before .before .before .before .before .before .before .before .args .plate .now)) (c .before .before .before .rules .left - 1) (c .next-place .result))
-next c = (stands-next _ _ _ (c .before .before .if1 .left) (c .before .before .before .rules .inv .0) _ (c .next-place .ensures), rules-next _ _ _ (c .before .before .if1 .left) _ (c .next-place .ensures))
+abbrev plate-of : tie.After-group-of Inv-bytes μ-bytes Inv-rules μ-rules → List ℕ
+plate-of g = let known = g .before .before .before in known .before .before .before .args .plate .now
 
--- Its first character.
-front : (c : tie.After-pattern-char Inv-bytes μ-bytes Inv-rules μ-rules)
-    → letters (ruleAt (c .before .before .before .before .before .before .before .before .before .before .args .plate .now) (c .before .before .before .before .rules .at)) ≡ c .pattern-char .result .code ∷ lettersFrom (c .before .before .before .before .before .before .before .before .before .before .args .plate .now) (c .before .before .before .before .rules .at) (c .pattern-char .result .width)
-front c = first-letter _ _ _ (c .pattern-char .ensures) .0
+abbrev places-of : tie.After-group-of Inv-bytes μ-bytes Inv-rules μ-rules → List ℕ
+places-of g = let known = g .before .before .before in known .before .before .before .args .places .now
 
--- Another first character: the search goes on behind the rule.
-passed : (c : tie.After-pattern-char Inv-bytes μ-bytes Inv-rules μ-rules) → (c .pattern-char .result .code ≡ getD (c .before .before .before .before .before .before .before .before .before .before .args .rest .now) 0 0 → ⊥)
-    → Inv-rules (c .before .before .before .before .before .before .before .before .before .before .args .plate .now) (c .before .before .before .before .before .before .before .before .before .before .args .rest .now) 0 false 0 0 (c .before .before .before .before .rules .known) (c .before .next-place .result) (c .before .before .before .before .rules .left - 1)
-passed c d = (next (c .before) .0, sym (other _ _ _ _ (next (c .before) .1) _ _ _ (front c) (c .before .before .before .before .before .before .before .before .before .before .pre .1) d) ∙ c .before .before .before .before .rules .inv .1)
+abbrev rest-of : tie.After-group-of Inv-bytes μ-bytes Inv-rules μ-rules → List ℕ
+rest-of g = let known = g .before .before .before in known .before .before .before .args .rest .now
 
--- The first character agrees, but not all: it goes on too, and there is a group.
-missed : (c : tie.Else2 Inv-bytes μ-bytes Inv-rules μ-rules) → begins (letters (ruleAt (c .before .before .before .before .before .before .before .before .before .before .before .before .args .plate .now) (c .before .before .before .before .before .before .rules .at))) (c .before .before .before .before .before .before .before .before .before .before .before .before .args .rest .now) ≡ false
-    → Inv-rules (c .before .before .before .before .before .before .before .before .before .before .before .before .args .plate .now) (c .before .before .before .before .before .before .before .before .before .before .before .before .args .rest .now) 0 false 0 0 true (c .before .before .before .next-place .result) (c .before .before .before .before .before .before .rules .left - 1)
-missed c b = (next (c .before .before .before) .0, sym (miss _ _ _ _ (next (c .before .before .before) .1) _ _ _ (front (c .before .before)) (c .before .before .before .before .before .before .before .before .before .before .before .before .pre .1) (c .if2 .left) b) ∙ c .before .before .before .before .before .before .rules .inv .1)
+abbrev place-of : tie.Else1 Inv-bytes μ-bytes Inv-rules μ-rules → ℕ
+place-of e = getD (places-of (e .before .before .before)) (e .before .before .rules .i) 0
+
+abbrev rule-of : tie.Else1 Inv-bytes μ-bytes Inv-rules μ-rules → List ℕ
+rule-of e = letters (ruleAt (plate-of (e .before .before .before)) (place-of e))
+
+-- It has a place, and stands there.
+room : (e : tie.Else1 Inv-bytes μ-bytes Inv-rules μ-rules) → e .before .before .rules .i < length (places-of (e .before .before .before))
+room e =
+    let g = e .before .before .before in
+    let p = let known = g .before .before .before in known .before .before .before .pre in
+    let r = g .group-of .result in
+    has-place (plate-of g) (places-of g) (rest-of g) (r .first) (r .behind) (p .0) (p .1 .0) (g .group-of .ensures) (p .2) (e .before .before .rules .i) (e .if1 .left)
+
+here : (e : tie.Else1 Inv-bytes μ-bytes Inv-rules μ-rules) → Here (plate-of (e .before .before .before)) (place-of e)
+here e =
+    let g = e .before .before .before in
+    let p = let known = g .before .before .before in known .before .before .before .pre in
+    let r = g .group-of .result in
+    stands (plate-of g) (places-of g) (rest-of g) (r .first) (r .behind) (p .0) (p .1 .0) (g .group-of .ensures) (p .2) (e .before .before .rules .i) (e .if1 .left)
+
+-- It does not begin the characters: the search goes on behind it.
+missed : (e : tie.Else1 Inv-bytes μ-bytes Inv-rules μ-rules) → begins (rule-of e) (rest-of (e .before .before .before)) ≡ false
+    → let g = e .before .before .before in Left (plate-of g) (places-of g) (rest-of g) (g .group-of .result .first) (g .group-of .result .behind) (e .before .before .rules .i + 1)
+missed e b =
+    let g = e .before .before .before in
+    let p = let known = g .before .before .before in known .before .before .before .pre in
+    let l = e .before .before .rules in
+    let r = g .group-of .result in
+    left-miss (plate-of g) (places-of g) (rest-of g) (r .first) (r .behind) (p .0) (p .1 .0) (g .group-of .ensures) (p .2) (l .i) (e .if1 .left) (l .inv) b
 
 -- More of the pattern is left.
-short : (c : tie.Else3 Inv-bytes μ-bytes Inv-rules μ-rules) → c .before .bytes .k < length (patternAt (c .before .before .before .before .before .before .before .before .before .before .before .before .before .before .args .plate .now) (c .before .before .before .before .before .before .before .before .rules .at))
-short c = let l = c .before .before .before .before .before .before .pattern-length .ensures in omega arith
+short : (c : tie.Else2 Inv-bytes μ-bytes Inv-rules μ-rules)
+    → let e = c .before .before .before .before in c .before .bytes .k < length (patternAt (plate-of (e .before .before .before)) (place-of e))
+short c = let l = c .before .before .pattern-length .ensures in omega arith
 
-shared-slice-read-c : tie.Need-shared-slice-read-c Inv-bytes μ-bytes Inv-rules μ-rules
-shared-slice-read-c c = c .before .before .before .pre .1
+-- ---- the needs
 
-first-place-requires : tie.Need-first-place-requires Inv-bytes μ-bytes Inv-rules μ-rules
-first-place-requires c κs = tt
+shared-slice-read-group-of : tie.Need-shared-slice-read-group-of Inv-bytes μ-bytes Inv-rules μ-rules
+shared-slice-read-group-of c = let known = c .before .before in known .before .before .before .pre .2
 
-rule-count-requires : tie.Need-rule-count-requires Inv-bytes μ-bytes Inv-rules μ-rules
-rule-count-requires c κs = c .before .before .before .before .pre .0
+group-of-requires : tie.Need-group-of-requires Inv-bytes μ-bytes Inv-rules μ-rules
+group-of-requires c κs = let p = let known = c .before .before in known .before .before .before .pre in (p .0, p .1)
 
 rules-holds : tie.Need-rules-holds Inv-bytes μ-bytes Inv-rules μ-rules
-rules-holds c = (rw (c .before .first-place .ensures) (c .rule-count .ensures .1), rw (c .before .first-place .ensures, c .rule-count .ensures .0))
+rules-holds c =
+    let p = let known = c .before .before .before in known .before .before .before .pre in
+    let r = c .group-of .result in
+    left-start (plate-of c) (places-of c) (rest-of c) (r .first) (r .behind) (p .0) (p .1 .0) (c .group-of .ensures) (p .2)
+
+mul-here : tie.Need-mul-here Inv-bytes μ-bytes Inv-rules μ-rules
+mul-here c = let r = room c in omega arith
+
+shared-slice-read-here : tie.Need-shared-slice-read-here Inv-bytes μ-bytes Inv-rules μ-rules
+shared-slice-read-here c = room (c .before)
+
+cast-here : tie.Need-cast-here Inv-bytes μ-bytes Inv-rules μ-rules
+cast-here c = record { fits = let n = here (c .before) .near in omega arith }
+
+add-i : tie.Need-add-i Inv-bytes μ-bytes Inv-rules μ-rules
+add-i c = let r = room (c .before) in omega arith
 
 pattern-length-requires : tie.Need-pattern-length-requires Inv-bytes μ-bytes Inv-rules μ-rules
-pattern-length-requires c κs = here c
-
-next-place-requires : tie.Need-next-place-requires Inv-bytes μ-bytes Inv-rules μ-rules
-next-place-requires c κs = here (c .before)
-
-sub-left : tie.Need-sub-left Inv-bytes μ-bytes Inv-rules μ-rules
-sub-left c = omega arith
-
-pattern-char-requires : tie.Need-pattern-char-requires Inv-bytes μ-bytes Inv-rules μ-rules
-pattern-char-requires c κs =
-    let l = c .before .pattern-length .ensures in
-    let h = here (c .before .before) in
-    (h, mark-start (c .before .before .before .before .before .before .before .before .before .args .plate .now) (c .before .before .before .rules .at) h, omega arith)
-
-rules-less : tie.Need-rules-less Inv-bytes μ-bytes Inv-rules μ-rules
-rules-less c = omega arith
-
-rules-again : tie.Need-rules-again Inv-bytes μ-bytes Inv-rules μ-rules
-rules-again c = passed (c .before .before) (c .if2 .taken)
+pattern-length-requires c κs = here (c .before)
 
 bytes-holds : tie.Need-bytes-holds Inv-bytes μ-bytes Inv-rules μ-rules
 bytes-holds c =
-    let l = c .before .before .before .before .pattern-length .ensures in
-    let p = c .before .before .pattern-char .ensures in
-    let i = p .within in
-    let s = p .some in
-    let w = ap length (front (c .before .before)) in
-    (omega arith, s, omega arith, first-letter _ _ _ p .1, omega arith, agrees _ _ 0 _ _ (front (c .before .before)) (c .before .before .before .before .before .before .before .before .before .before .before .before .pre .1) (c .if2 .left))
+    let e = c .before .before in
+    let g = e .before .before .before in
+    let s = plate-of g in
+    let at = place-of e in (
+      omega arith,
+      omega arith,
+      mark-start s at (here e),
+      zero-add (length (lettersFrom s at 0)) ∙ ap length (pattern-start s at),
+      ap (λ (l : List ℕ). begins l (rest-of g)) (pattern-start s at),
+    )
 
-pattern-char-requires-2 : tie.Need-pattern-char-requires-2 Inv-bytes μ-bytes Inv-rules μ-rules
-pattern-char-requires-2 c κs = (here (c .before .before .before .before .before .before .before), c .before .bytes .inv .3, short c)
+pattern-char-requires : tie.Need-pattern-char-requires Inv-bytes μ-bytes Inv-rules μ-rules
+pattern-char-requires c κs = let e = c .before .before .before .before in (here e, c .before .bytes .inv .2, short c)
+
+rules-less : tie.Need-rules-less Inv-bytes μ-bytes Inv-rules μ-rules
+rules-less c =
+    let at-byte = c .before .before in
+    let e = at-byte .before .before .before .before in
+    omega (arith, e .if1 .left)
+
+rules-again : tie.Need-rules-again Inv-bytes μ-bytes Inv-rules μ-rules
+rules-again c =
+    let at-byte = c .before .before in
+    missed (at-byte .before .before .before .before) (sym (at-byte .before .bytes .inv .4) ∙ ends _ _ _ _ _ (c .before .pattern-char .ensures .front) (c .if3 .taken))
+
+mul-if4 : tie.Need-mul-if4 Inv-bytes μ-bytes Inv-rules μ-rules
+mul-if4 c = omega arith
+
+shared-slice-read-if4 : tie.Need-shared-slice-read-if4 Inv-bytes μ-bytes Inv-rules μ-rules
+shared-slice-read-if4 c = omega arith
 
 rules-less-2 : tie.Need-rules-less-2 Inv-bytes μ-bytes Inv-rules μ-rules
-rules-less-2 c = omega arith
+rules-less-2 c =
+    let at-char = c .before .before .before .before in
+    let e = at-char .before .before .before .before .before in
+    omega (arith, e .if1 .left)
 
 rules-again-2 : tie.Need-rules-again-2 Inv-bytes μ-bytes Inv-rules μ-rules
-rules-again-2 c = missed (c .before .before .before .before) (sym (c .before .before .before .bytes .inv .5) ∙ ends _ _ _ _ _ (c .before .pattern-char2 .ensures .front) (c .if4 .taken))
-
-mul-if5 : tie.Need-mul-if5 Inv-bytes μ-bytes Inv-rules μ-rules
-mul-if5 c = omega arith
-
-shared-slice-read-if5 : tie.Need-shared-slice-read-if5 Inv-bytes μ-bytes Inv-rules μ-rules
-shared-slice-read-if5 c = omega arith
-
-rules-less-3 : tie.Need-rules-less-3 Inv-bytes μ-bytes Inv-rules μ-rules
-rules-less-3 c = omega arith
-
-rules-again-3 : tie.Need-rules-again-3 Inv-bytes μ-bytes Inv-rules μ-rules
-rules-again-3 c = missed (c .before .before .before .before .before .before .before) (sym (c .before .before .before .before .before .before .bytes .inv .5) ∙ differs _ _ _ _ _ (c .before .before .before .before .pattern-char2 .ensures .front) (c .before .before .before .if4 .left) (c .if5 .taken))
+rules-again-2 c =
+    let more = c .before .before .before in
+    let at-byte = more .before .before in
+    missed (at-byte .before .before .before .before)
+    (sym (at-byte .before .bytes .inv .4) ∙ differs _ _ _ _ _ (more .before .pattern-char .ensures .front) (more .if3 .left) (c .if4 .taken))
 
 add-k : tie.Need-add-k Inv-bytes μ-bytes Inv-rules μ-rules
 add-k c =
-    let i = c .before .before .before .before .before .before .before .bytes .inv in
-    let p = c .before .before .before .before .before .pattern-char2 .ensures .within in
-    let l = c .before .before .before .before .before .before .before .before .before .before .before .before .pattern-length .ensures in
+    let more = c .before .before .before .before in
+    let at-byte = more .before .before in
+    let i = at-byte .before .bytes .inv in
+    let p = more .before .pattern-char .ensures .within in
+    let l = at-byte .before .before .pattern-length .ensures in
     omega arith
 
 add-j : tie.Need-add-j Inv-bytes μ-bytes Inv-rules μ-rules
 add-j c =
-    let i = c .before .before .before .before .before .before .before .bytes .inv in
-    let l = c .before .before .before .before .before .before .before .before .before .before .before .before .pattern-length .ensures in
+    let more = c .before .before .before .before in
+    let at-byte = more .before .before in
+    let i = at-byte .before .bytes .inv in
+    let l = at-byte .before .before .pattern-length .ensures in
     omega arith
 
 bytes-less : tie.Need-bytes-less Inv-bytes μ-bytes Inv-rules μ-rules
 bytes-less c =
-    let i = c .before .before .before .before .before .before .before .bytes .inv in
-    let p = c .before .before .before .before .before .pattern-char2 .ensures .some in
-    let q = short (c .before .before .before .before .before .before) in
-    let l = c .before .before .before .before .before .before .before .before .before .before .before .before .pattern-length .ensures in
+    let more = c .before .before .before .before in
+    let at-byte = more .before .before in
+    let i = at-byte .before .bytes .inv in
+    let p = more .before .pattern-char .ensures .some in
+    let q = short at-byte in
+    let l = at-byte .before .before .pattern-length .ensures in
     omega arith
 
 bytes-again : tie.Need-bytes-again Inv-bytes μ-bytes Inv-rules μ-rules
 bytes-again c =
-    let i = c .before .before .before .before .before .before .before .bytes .inv in
-    let r = c .before .before .before .before .before .pattern-char2 .ensures in
+    let more = c .before .before .before .before in
+    let at-byte = more .before .before in
+    let i = at-byte .before .bytes .inv in
+    let r = more .before .pattern-char .ensures in
     let p = r .some in
     let q = r .within in
     let e = ap length (r .front) in
-    let l = c .before .before .before .before .before .before .before .before .before .before .before .before .pattern-length .ensures in
-    let m = i .4 in
-    (omega arith, omega arith, omega arith, r .mark, omega arith, agrees _ _ _ _ _ (r .front) (c .before .before .before .before .if4 .left) (c .before .if5 .left) ∙ i .5)
+    let l = at-byte .before .before .pattern-length .ensures in
+    let m = i .3 in
+    (omega arith, omega arith, r .mark, omega arith, agrees _ _ _ _ _ (r .front) (more .if3 .left) (c .before .if4 .left) ∙ i .4)
 
 returns : tie.Need-returns Inv-bytes μ-bytes Inv-rules μ-rules
-returns c = sym (c .before .rules .inv .1) ∙ hit-end _ _ _ (rules-none _ _ _ (c .if1 .taken))
+returns c =
+    let done = c .before in
+    let l = done .before .before .rules in
+    let g = done .before .before .before in
+    let p = let known = g .before .before .before in known .before .before .before .pre in
+    let r = g .group-of .result in
+    left-end (plate-of g) (places-of g) (rest-of g) (r .first) (r .behind) (p .0) (p .1 .0) (g .group-of .ensures) (p .2) (l .i) (done .if1 .taken) (l .inv)
 
 returns-2 : tie.Need-returns-2 Inv-bytes μ-bytes Inv-rules μ-rules
 returns-2 c =
-    let s = c .before .before .before .before .before .before .before .before .before .before .before .before .before .before .args .plate .now in
-    let place = c .before .before .before .before .before .before .before .before .rules .at in
+    let e = c .before .before .before .before in
+    let g = e .before .before .before in
+    let p = let known = g .before .before .before in known .before .before .before .pre in
+    let turn = e .before .before .rules in
+    let found = g .group-of .result in
+    let s = plate-of g in
+    let at = place-of e in
     let k = c .before .bytes .k in
-    let l = c .before .before .before .before .before .before .pattern-length .ensures in
+    let l = c .before .before .pattern-length .ensures in
     let i = c .before .bytes .inv in
-    let h : length (patternAt s place) ≤ k = omega arith in
-    let e = pattern-end s place k h in
-    let n = i .4 in
-    let z = ap length e in
-    let whole = sym (i .5) ∙ all (lettersFrom s place k) (c .before .before .before .before .before .before .before .before .before .before .before .before .before .before .args .rest .now) (c .before .bytes .j) e in
-    (sym (c .before .before .before .before .before .before .before .before .rules .inv .1) ∙ hit _ _ _ _ (next (c .before .before .before .before .before) .1) _ (c .before .before .before .before .before .before .before .before .before .before .before .before .before .before .pre .1) whole, here (c .before .before .before .before .before .before .before), omega arith, omega arith, omega arith)
+    let h : length (patternAt s at) ≤ k = omega arith in
+    let none-left = pattern-end s at k h in
+    let n = i .3 in
+    let z = ap length none-left in
+    let some = one-letter s at (here e) in
+    let whole = sym (i .4) ∙ all (lettersFrom s at k) (rest-of g) (c .before .bytes .j) none-left in (
+      left-hit s (places-of g) (rest-of g) (found .first) (found .behind) (p .0) (p .1 .0) (g .group-of .ensures) (p .2) (turn .i) (e .if1 .left) (turn .inv) whole,
+      here e,
+      omega arith,
+      omega arith,
+      omega arith,
+    )
 
 pub search-spec : {M : Type 1} → statement M
 search-spec =
@@ -181,24 +235,22 @@ search-spec =
     μ-bytes
     Inv-rules
     μ-rules
-    shared-slice-read-c
-    first-place-requires
-    rule-count-requires
+    shared-slice-read-group-of
+    group-of-requires
     rules-holds
+    mul-here
+    shared-slice-read-here
+    cast-here
+    add-i
     pattern-length-requires
-    next-place-requires
-    sub-left
+    bytes-holds
     pattern-char-requires
     rules-less
     rules-again
-    bytes-holds
-    pattern-char-requires-2
+    mul-if4
+    shared-slice-read-if4
     rules-less-2
     rules-again-2
-    mul-if5
-    shared-slice-read-if5
-    rules-less-3
-    rules-again-3
     add-k
     add-j
     bytes-less

@@ -1,8 +1,9 @@
 -- `plate::accept::accept_in` meets its contract: the seven tests of `acceptedIn` are made one by one, and any that fails decides
--- (Accepted.accept-number to accept-end). Assumes nothing.
+-- (Accepted.accept-number to accept-end); what accept_rules has noted is noted of the plate. Assumes nothing.
 use native.Mathlib.Omega.{arith}
 use borrow.Author.Needs.{needs}
 use Rattle.plate.proofs.Accepted.{accept-number, accept-reserved, accept-many-rules, accept-many-foldings, accept-bad-folding, accept-bad-rule, accept-end}
+use Rattle.plate.proofs.Noting.{noted-all, noted-if}
 use Rattle.plate.proofs.accept.accept_in.Statement.{statement}
 use Rattle.plate.proofs.accept.accept_in.Tie as tie
 
@@ -10,7 +11,10 @@ bits-requires : tie.Need-bits-requires
 bits-requires c κs = search needs
 
 returns : tie.Need-returns
-returns c = let a = c .before .before .before .args in accept-number (a .plate .now) (a .number) (a .width) (a .most) (c .before .bits .result) (c .before .bits .ensures .0) (c .if1 .taken)
+returns c =
+    let number = c .before in
+    let a = number .before .before .before .before .args in
+    (accept-number (a .plate .now) (a .number) (a .width) (a .most) (number .bits .result) (number .bits .ensures .0) (c .if1 .taken), tt)
 
 add-bits : tie.Need-add-bits
 add-bits c = search needs
@@ -22,13 +26,21 @@ bits-requires-2 : tie.Need-bits-requires-2
 bits-requires-2 c κs = search needs
 
 returns-2 : tie.Need-returns-2
-returns-2 c = let a = c .before .before .before .before .before .args in accept-reserved (a .plate .now) (a .number) (a .width) (a .most) (c .before .bits2 .result) (c .before .bits2 .ensures .0) (c .if2 .taken)
+returns-2 c =
+    let reserved = c .before in
+    let number = reserved .before .before in
+    let a = number .before .before .before .before .args in
+    (accept-reserved (a .plate .now) (a .number) (a .width) (a .most) (reserved .bits2 .result) (reserved .bits2 .ensures .0) (c .if2 .taken), tt)
 
 count-requires : tie.Need-count-requires
 count-requires c κs = search needs
 
 returns-3 : tie.Need-returns-3
-returns-3 c = let a = c .before .before .before .before .before .before .before .args in accept-many-rules (a .plate .now) (a .number) (a .width) (a .most) (c .before .count .result) (c .before .count .ensures .0) (c .if3 .taken)
+returns-3 c =
+    let rules = c .before in
+    let number = rules .before .before .before .before in
+    let a = number .before .before .before .before .args in
+    (accept-many-rules (a .plate .now) (a .number) (a .width) (a .most) (rules .count .result) (rules .count .ensures .0) (c .if3 .taken), tt)
 
 add-count : tie.Need-add-count
 add-count c = search needs
@@ -37,7 +49,12 @@ count-requires-2 : tie.Need-count-requires-2
 count-requires-2 c κs = search needs
 
 returns-4 : tie.Need-returns-4
-returns-4 c = let a = c .before .before .before .before .before .before .before .before .before .args in accept-many-foldings (a .plate .now) (a .number) (a .width) (a .most) (c .before .count2 .result) (c .before .count2 .ensures .0) (c .if4 .taken)
+returns-4 c =
+    let foldings = c .before in
+    let rules = foldings .before .before in
+    let number = rules .before .before .before .before in
+    let a = number .before .before .before .before .args in
+    (accept-many-foldings (a .plate .now) (a .number) (a .width) (a .most) (foldings .count2 .result) (foldings .count2 .ensures .0) (c .if4 .taken), tt)
 
 accept-foldings-requires : tie.Need-accept-foldings-requires
 accept-foldings-requires c κs = search needs
@@ -57,28 +74,74 @@ enum-known-end c = search needs
 enum-told : tie.Need-enum-told
 enum-told c = search needs
 
+same-length : tie.Need-same-length
+same-length c = search needs
+
+same-length-2 : tie.Need-same-length-2
+same-length-2 c = search needs
+
 returns-5 : tie.Need-returns-5
 returns-5 c =
-    let a = c .before .before .before .before .before .before .before .before .before .before .before .before .before .before .args in
-    accept-bad-rule (a .plate .now) (a .number) (a .width) (a .most) (c .before .before .before .before .before .before .count2 .result) (c .before .before .before .before .before .before .count2 .ensures .0) (c .before .before .before .before .accept-foldings .result) (c .before .before .before .before .accept-foldings .ensures)
-    (c .before .before .before .before .before .before .before .before .count .result) (c .before .before .before .before .before .before .before .before .count .ensures .0) (c .before .before .accept-rules .result) (c .before .before .accept-rules .ensures .0) (c .enum-told .given .1)
+    let ruled = c .before .before .before .before .before .before in
+    let folded = ruled .before .before .before .before in
+    let foldings = folded .before .before in
+    let rules = foldings .before .before in
+    let number = rules .before .before .before .before in
+    let a = number .before .before .before .before .args in (
+      accept-bad-rule (a .plate .now) (a .number) (a .width) (a .most) (foldings .count2 .result) (foldings .count2 .ensures .0) (folded .accept-foldings .result)
+          (folded .accept-foldings .ensures) (rules .count .result) (rules .count .ensures .0) (ruled .accept-rules .result) (ruled .accept-rules .ensures .0) (c .enum-told .given .1),
+      tt,
+    )
 
 is-closed-requires : tie.Need-is-closed-requires
-is-closed-requires c κs = let w = rw (c .before .end .given .1) at (c .before .before .before .accept-rules .ensures .1) in omega arith
+is-closed-requires c κs =
+    let known = c .before in
+    let ruled = known .before .before .before .before .before .before in
+    let folded = ruled .before .before .before .before in
+    let foldings = folded .before .before in
+    let number = foldings .before .before .before .before .before .before in
+    let start = number .before .before .before .before in
+    let w = rw (known .end .given .1) at (ruled .accept-rules .ensures .1) in
+    omega (arith, start .pre .1, foldings .before .if3 .left, folded .before .if4 .left)
+
+same-length-3 : tie.Need-same-length-3
+same-length-3 c = search needs
+
+same-length-4 : tie.Need-same-length-4
+same-length-4 c = search needs
 
 returns-6 : tie.Need-returns-6
 returns-6 c =
-    let a = c .before .before .before .before .before .before .before .before .before .before .before .before .before .before .before .before .args in
-    let v = c .before .before .end .given in
-    accept-end (a .plate .now) (a .number) (a .width) (a .most) (c .before .before .before .before .before .before .before .before .count2 .result) (c .before .before .before .before .before .before .before .before .count2 .ensures .0) (c .before .before .before .before .before .before .accept-foldings .result) (c .before .before .before .before .before .before .accept-foldings .ensures)
-    (c .before .before .before .before .before .before .before .before .before .before .count .result) (c .before .before .before .before .before .before .before .before .before .before .count .ensures .0) (c .before .before .before .before .accept-rules .result) (c .before .before .before .before .accept-rules .ensures .0)
-    (c .before .before .before .before .before .before .before .before .before .before .before .before .before .before .bits .result) (c .before .before .before .before .before .before .before .before .before .before .before .before .bits2 .result) (c .before .before .before .before .before .before .before .before .before .before .before .before .before .before .bits .ensures .0) (c .before .before .before .before .before .before .before .before .before .before .before .before .before .if1 .left) (c .before .before .before .before .before .before .before .before .before .before .before .before .bits2 .ensures .0) (c .before .before .before .before .before .before .before .before .before .before .before .if2 .left)
-    (c .before .before .before .before .before .before .before .before .before .if3 .left) (c .before .before .before .before .before .before .before .if4 .left) (c .before .before .before .before .before .if5 .taken) (v .0 .0) (v .1) (c .is-closed .result) (c .is-closed .ensures)
+    let known = c .before .before in
+    let ruled = known .before .before .before .before .before .before in
+    let folded = ruled .before .before .before .before in
+    let foldings = folded .before .before in
+    let rules = foldings .before .before in
+    let reserved = rules .before .before in
+    let number = reserved .before .before in
+    let a = number .before .before .before .before .args in
+    let s = a .plate .now in
+    let v = known .end .given in
+    let m = foldings .count2 in
+    let n = rules .count in
+    let told = ruled .accept-rules .ensures in (
+      accept-end s (a .number) (a .width) (a .most) (m .result) (m .ensures .0) (folded .accept-foldings .result) (folded .accept-foldings .ensures) (n .result) (n .ensures .0)
+          (ruled .accept-rules .result) (told .0) (number .bits .result) (reserved .bits2 .result) (number .bits .ensures .0) (reserved .before .if1 .left)
+          (reserved .bits2 .ensures .0) (rules .before .if2 .left) (foldings .before .if3 .left) (folded .before .if4 .left) (ruled .before .before .before .if5 .taken)
+          (v .0 .0) (v .1) (c .is-closed .result) (c .is-closed .ensures),
+      noted-if (c .is-closed .result) (a .width) s _ _ (noted-all (a .width) s _ _ (m .result) (n .result) (m .ensures .0) (n .ensures .0) (rw (v .1) at (told .2))),
+    )
 
 returns-7 : tie.Need-returns-7
 returns-7 c =
-    let a = c .before .before .before .before .before .before .before .before .before .before .before .args in
-    accept-bad-folding (a .plate .now) (a .number) (a .width) (a .most) (c .before .before .before .count2 .result) (c .before .before .before .count2 .ensures .0) (c .before .accept-foldings .result) (c .before .accept-foldings .ensures) (c .if5 .left)
+    let folded = c .before in
+    let foldings = folded .before .before in
+    let number = foldings .before .before .before .before .before .before in
+    let a = number .before .before .before .before .args in (
+      accept-bad-folding (a .plate .now) (a .number) (a .width) (a .most) (foldings .count2 .result) (foldings .count2 .ensures .0) (folded .accept-foldings .result)
+          (folded .accept-foldings .ensures) (c .if5 .left),
+      tt,
+    )
 
 pub accept-in-spec : {M : Type 1} → statement M
 accept-in-spec =
@@ -101,7 +164,11 @@ accept-in-spec =
     accept-rules-requires
     enum-known-end
     enum-told
+    same-length
+    same-length-2
     returns-5
     is-closed-requires
+    same-length-3
+    same-length-4
     returns-6
     returns-7)

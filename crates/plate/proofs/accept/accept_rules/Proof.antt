@@ -1,22 +1,37 @@
--- `plate::accept::accept_rules` meets its contract: the rules left, behind the one before, are good and in order exactly if all are; each turn takes
--- the first one off, and no more than 913 bits pass. Assumes nothing.
-use Prim.Native.Nat.{_+_, _*_, _≤_}
-use mathlib.Core.Path.{_≡_, refl, sym, _∙_}
+-- `plate::accept::accept_rules` meets its contract: the rules left are good and in order exactly if all are, and those passed are noted (Noting.Going).
+-- Assumes nothing.
+use Prim.Native.Nat.{ℕ, _+_, _-_, _*_, _≤_, _<_}
+use mathlib.Core.Path.{_≡_, refl, sym, _∙_, ap, subst}
+use mathlib.Core.Logic.{⊎-elim}
+use mathlib.Core.List.{List}
+use native.Mathlib.Nat.{sub-zero}
 use native.Mathlib.Omega.{arith}
 use borrow.Author.Needs.{needs}
+use lib.ListN.{length, set, length-set, length-replicate}
 use Rattle.plate.specs.Answers.{rulesStep}
+use Rattle.plate.specs.Noted.{NotedFrom}
 use Rattle.plate.proofs.Accepted.{rules-stop, rules-turn, rules-end}
+use Rattle.plate.proofs.Noting.{Going, going-start, going-turn}
 use Rattle.plate.proofs.accept.accept_rules.Statement.{statement}
 use Rattle.plate.proofs.accept.accept_rules.Tie as tie
 
 abbrev Inv-loop : tie.InvT-loop
-Inv-loop plate from n at₀ left₀ code₀ length₀ at left code length = (at + 913 * left ≤ from + 913 * n) × (rulesStep plate at left code length ≡ rulesStep plate from n 0 0)
+Inv-loop plate from n places₀ groups₀ at₀ i₀ begun₀ code₀ len₀ places groups at i begun code len =
+    (i ≤ n) × (at ≤ from + 913 * i) × (length places ≡ length places₀) × (rulesStep plate at (n - i) code len ≡ rulesStep plate from n 0 0) × Going plate from i at begun code places groups
 
 abbrev μ-loop : tie.MeasureT-loop
-μ-loop plate from n at₀ left₀ code₀ length₀ at left code length = left
+μ-loop plate from n places₀ groups₀ at₀ i₀ begun₀ code₀ len₀ places groups at i begun code len = n - i
 
 loop-holds : tie.Need-loop-holds Inv-loop μ-loop
-loop-holds c = (omega arith, refl)
+loop-holds c =
+    let start = c .before .before .before in
+    let a = start .args in (
+      omega arith,
+      omega arith,
+      refl,
+      ap (λ (k : ℕ). rulesStep (a .plate .now) (a .from) k 0 0) (sub-zero (a .n)),
+      going-start (a .plate .now) (a .from) (a .places .now) (a .groups .now) (start .pre .3),
+    )
 
 accept-rule-requires : tie.Need-accept-rule-requires Inv-loop μ-loop
 accept-rule-requires c κs = omega arith
@@ -27,34 +42,100 @@ enum-known-c c = search needs
 enum-told : tie.Need-enum-told Inv-loop μ-loop
 enum-told c = search needs
 
+same-length : tie.Need-same-length Inv-loop μ-loop
+same-length c = let at-loop = c .before .before .before .before in at-loop .loop .inv .2
+
+same-length-2 : tie.Need-same-length-2 Inv-loop μ-loop
+same-length-2 c =
+    let at-loop = c .before .before .before .before in
+    let start = at-loop .before .before .before .before in
+    at-loop .loop .inv .4 .noted .1 .size ∙ sym (ap length (start .pre .3) ∙ length-replicate {A = ℕ} 384 0)
+
 returns : tie.Need-returns Inv-loop μ-loop
 returns c =
-    let l = c .before .before .before .before .loop in (
-      rules-stop (c .before .before .before .before .before .before .args .plate .now) (l .at) (l .left) (l .code) (l .length) (c .before .before .before .loop-test .taken) (c .before .before .accept-rule .result) (c .before .before .accept-rule .ensures .0) (c .enum-told .given .1)
-          ∙ l .inv .1,
+    let seen = c .before .before in
+    let at-loop = seen .before .before in
+    let a = let start = at-loop .before .before .before .before in start .args in
+    let l = at-loop .loop in (
+      rules-stop (a .plate .now) (l .at) (a .n - l .i) (l .code) (l .length) (omega arith) (seen .accept-rule .result) (seen .accept-rule .ensures .0) (c .enum-told .given .1)
+          ∙ l .inv .3,
       omega arith,
+      tt,
     )
 
-sub-left : tie.Need-sub-left Inv-loop μ-loop
-sub-left c = omega arith
+cast-places : tie.Need-cast-places Inv-loop μ-loop
+cast-places c = record { fits = omega arith }
+
+mul-places : tie.Need-mul-places Inv-loop μ-loop
+mul-places c = omega arith
+
+slice-write-places : tie.Need-slice-write-places Inv-loop μ-loop
+slice-write-places c = let p = let known = c .before in known .before .before .before .before .loop .inv .2 in omega arith
+
+group-start-requires : tie.Need-group-start-requires Inv-loop μ-loop
+group-start-requires c κs = tt
+
+note-group-requires : tie.Need-note-group-requires Inv-loop μ-loop
+note-group-requires c κs =
+    let at-loop = let known = c .before .before .before in known .before .before .before .before in
+    let g = at-loop .loop .inv .4 in
+    let q = g .last .rising in
+    (g .noted .1 .size, ⊎-elim (λ w. let e = w .1 in omega arith) (λ w. let e = w .1 in omega arith) (c .before .group-start .ensures), omega arith)
+
+add-i : tie.Need-add-i Inv-loop μ-loop
+add-i c = omega arith
 
 loop-less : tie.Need-loop-less Inv-loop μ-loop
 loop-less c = omega arith
 
 loop-again : tie.Need-loop-again Inv-loop μ-loop
 loop-again c =
-    let l = c .before .before .before .before .before .loop in
-    let v = c .before .c .given in
-    let w = rw (v .1) at (c .before .before .before .accept-rule .ensures .1) in (
+    let noted = c .before .before in
+    let begun = noted .before .before in
+    let known = begun .before .before in
+    let seen = known .before .before in
+    let at-loop = seen .before .before in
+    let start = at-loop .before .before .before .before in
+    let a = start .args in
+    let s = a .plate .now in
+    let l = at-loop .loop in
+    let v = known .c .given in
+    let r = seen .accept-rule in
+    let w = rw (v .1) at (r .ensures .1) in
+    let p = l .inv .2 in
+    let going = seen .before .loop-test .taken in
+    let more : 0 < a .n - l .i = omega (arith, going) in
+    let room : l .i < length (l .places) = omega (arith, going, p, start .pre .2) in
+    let b = begun .group-start in (
       omega arith,
-      rules-turn (c .before .before .before .before .before .before .before .args .plate .now) (l .at) (l .left) (l .code) (l .length) (c .before .before .before .before .loop-test .taken) (c .before .before .before .accept-rule .result) (c .before .before .before .accept-rule .ensures .0)
-          (v .0 .0) (v .0 .1 .0) (v .0 .1 .1 .0) (v .1) ∙ l .inv .1,
+      omega arith,
+      length-set (l .places) (l .i) (l .at) ∙ p,
+      ap (λ (k : ℕ). rulesStep s (v .0 .1 .1 .0) k (v .0 .0) (v .0 .1 .0)) {x = a .n - (l .i + 1)} {y = a .n - l .i - 1} (omega arith)
+          ∙ rules-turn s (l .at) (a .n - l .i) (l .code) (l .length) more (r .result) (r .ensures .0) (v .0 .0) (v .0 .1 .0) (v .0 .1 .1 .0) (v .1)
+          ∙ l .inv .3,
+      subst (λ (x : List ℕ). Going s (a .from) (l .i + 1) (v .0 .1 .1 .0) (b .result) (v .0 .0) (set (l .places) (l .i) (l .at)) x) (sym (noted .note-group .ensures))
+          (going-turn s (a .from) (l .i) (l .at) (l .begun) (l .code) (l .places) (l .groups) (l .inv .4) (l .length) (r .result) (r .ensures .0) (v .0 .0) (v .0 .1 .0) (v .0 .1 .1 .0) (v .1)
+          (b .result) (b .ensures) (omega arith) room),
     )
+
+same-length-3 : tie.Need-same-length-3 Inv-loop μ-loop
+same-length-3 c = c .before .loop .inv .2
+
+same-length-4 : tie.Need-same-length-4 Inv-loop μ-loop
+same-length-4 c =
+    let start = c .before in
+    start .loop .inv .4 .noted .1 .size ∙ sym (ap length (start .before .before .before .before .pre .3) ∙ length-replicate {A = ℕ} 384 0)
 
 returns-2 : tie.Need-returns-2 Inv-loop μ-loop
 returns-2 c =
-    let l = c .before .loop in
-    (sym (rules-end (c .before .before .before .args .plate .now) (l .at) (l .left) (l .code) (l .length) (c .loop-test .left)) ∙ l .inv .1, omega arith)
+    let at-loop = c .before in
+    let a = let start = at-loop .before .before .before .before in start .args in
+    let l = at-loop .loop in
+    let all : l .i ≡ a .n = omega arith in (
+      sym (rules-end (a .plate .now) (l .at) (a .n - l .i) (l .code) (l .length) (omega arith)) ∙ l .inv .3,
+      omega arith,
+      subst (λ (k : ℕ). NotedFrom (a .plate .now) (a .from) k (l .places) (l .groups)) all (l .inv .4 .noted),
+    )
 
 pub accept-rules-spec : {M : Type 1} → statement M
 accept-rules-spec =
@@ -66,8 +147,17 @@ accept-rules-spec =
     accept-rule-requires
     enum-known-c
     enum-told
+    same-length
+    same-length-2
     returns
-    sub-left
+    cast-places
+    mul-places
+    slice-write-places
+    group-start-requires
+    note-group-requires
+    add-i
     loop-less
     loop-again
+    same-length-3
+    same-length-4
     returns-2)

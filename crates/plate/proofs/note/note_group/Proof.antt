@@ -1,0 +1,49 @@
+-- `plate::note::note_group` meets its contract: past the end of an array `set` changes nothing. Assumes nothing.
+use Prim.Native.Nat.{_+_, _*_}
+use mathlib.Core.Path.{sym}
+use native.Mathlib.Omega.{arith}
+use borrow.Author.Needs.{needs}
+use lib.Seq.{set-out}
+use Rattle.plate.proofs.note.note_group.Statement.{statement}
+use Rattle.plate.proofs.note.note_group.Tie as tie
+
+returns : tie.Need-returns
+returns c = let a = c .before .args in sym (set-out (a .groups .now) (a .c) (a .first * 65536 + (a .last + 1)) (omega arith))
+
+mul-groups : tie.Need-mul-groups
+mul-groups c = search needs
+
+add-groups : tie.Need-add-groups
+add-groups c = search needs
+
+add-groups-2 : tie.Need-add-groups-2
+add-groups-2 c = search needs
+
+cast-groups : tie.Need-cast-groups
+cast-groups c = search needs
+
+mul-groups-2 : tie.Need-mul-groups-2
+mul-groups-2 c = search needs
+
+slice-write-groups : tie.Need-slice-write-groups
+slice-write-groups c = search needs
+
+same-length : tie.Need-same-length
+same-length c = search needs
+
+returns-2 : tie.Need-returns-2
+returns-2 c = search needs
+
+pub note-group-spec : {M : Type 1} → statement M
+note-group-spec =
+    tie.close
+    (tie.spec
+    returns
+    mul-groups
+    add-groups
+    add-groups-2
+    cast-groups
+    mul-groups-2
+    slice-write-groups
+    same-length
+    returns-2)

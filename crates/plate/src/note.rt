@@ -1,0 +1,70 @@
+// What is noted of a plate's rules while it is accepted: where each stands, and which rules are a character's group. Groups are noted for the first 384
+// characters, those that a name may hold; any other (a folding's target may be any) has its group found by halves, since rules stand by first character.
+ghost use mathlib.Core.Path.{_≡_};
+ghost use mathlib.Core.Bool.{true};
+ghost use mathlib.Core.Logic.{_⊎_};
+ghost use Prim.Native.Nat.{_+_, _*_, _≤_};
+ghost use lib.ListN.{length, set};
+ghost use Rattle.plate.specs.Plate.{edition1};
+ghost use Rattle.plate.specs.Read.{plateAt, acceptedIn, ruleCount, rulesPlace};
+ghost use Rattle.plate.specs.Noted.{GroupIs, Parted, Placed, Noted};
+use super::Group;
+use super::read;
+
+// Where the group begins that rule i, of first code point c, belongs to: with the rule before, whose group began at `begun`, or here.
+pub(crate) fn group_start(code: u32, begun: usize, c: u32, i: usize) -> usize
+    ensures { λ r. ⌜ ((c ≡ code) × (r ≡ begun)) ⊎ ((c ≡ code → ⊥) × (r ≡ i)) ⌝ }
+{
+    if c == code { begun } else { i }
+}
+
+// A character's group, from its first rule to its last, is noted, if the character is one of the first 384.
+pub(crate) fn note_group(groups: &mut [u32], c: u32, first: usize, last: usize)
+    requires { ⌜ (length (now groups) ≡ 384) × (first ≤ 1500) × (last ≤ 1500) ⌝ }
+    ensures { λ r. ⌜ now (groups .exit) ≡ set (now (groups .entry)) c (first * 65536 + (last + 1)) ⌝ }
+{
+    if 384 <= c {
+        return;
+    }
+    groups[c as usize] = (first * 65536 + (last + 1)) as u32;
+}
+
+// How many of n rules begin with a character below c: those in front, since rules stand by first character.
+fn rules_below(plate: &[u8], places: &[u32], n: usize, c: usize) -> usize
+    requires { ⌜ (acceptedIn edition1 (now plate) ≡ true) × Placed (now plate) (rulesPlace (edition1 .width) (now plate)) n (now places) × (n ≡ ruleCount (edition1 .width) (now plate)) ⌝ }
+    ensures { λ r. ⌜ Parted (plateAt (edition1 .width) (now (plate .entry)) .rules) c r ⌝ }
+{
+    let mut low: usize = 0;
+    let mut high = n;
+    while low < high {
+        let middle = low + (high - low) / 2;
+        let here = places[middle] as usize;
+        let letter = read::pattern_char(plate, here, 0);
+        if (letter.code as usize) < c {
+            low = middle + 1;
+            continue;
+        }
+        high = middle;
+    }
+    low
+}
+
+// A character's group: "the rules whose pattern begins with it".
+pub fn group_of(plate: &[u8], places: &[u32], groups: &[u32], c: u32) -> Group
+    requires { ⌜ (acceptedIn edition1 (now plate) ≡ true) × Noted (edition1 .width) (now plate) (now places) (now groups) ⌝ }
+    ensures { λ r. ⌜ GroupIs (plateAt (edition1 .width) (now (plate .entry)) .rules) c (r .first) (r .behind) ⌝ }
+{
+    let code = c as usize;
+    if code < 384 {
+        let group = groups[code] as usize;
+        return Group {
+            first: group / 65536,
+            behind: group % 65536,
+        };
+    }
+    let n = read::rule_count(plate);
+    Group {
+        first: rules_below(plate, places, n, code),
+        behind: rules_below(plate, places, n, code + 1),
+    }
+}
