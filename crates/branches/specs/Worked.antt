@@ -4,9 +4,8 @@ use Prim.Native.String.{String}
 use mathlib.Core.Bool.{Bool, true, false, _&&_, not}
 use mathlib.Core.List.{List, [], _∷_}
 use lib.Dec.{T}
-use Rattle.laws.specs.Lists.{every, same}
+use Rattle.laws.specs.Lists.{every, same, splitAt}
 use Rattle.chars.specs.Quoted.{bytes}
-use Rattle.rule_text.specs.Fields.{alternatives}
 use Rattle.branches.specs.Branches.{Use, endsWith, extend, met, step, run, over, start, codes}
 
 -- uses, and the codes that they give
@@ -14,14 +13,18 @@ pub record Case : Type 0 where
   pub uses : List Use
   pub listed : List (List ℕ)
 
+-- alternatives, a bar between two of them
+abbrev written : List ℕ → List (List ℕ)
+written l = splitAt 124 l
+
 abbrev takes : String → Use
-takes a = record { alternatives = alternatives (bytes a); anyway = false }
+takes a = record { alternatives = written (bytes a); anyway = false }
 
 abbrev forced : String → Use
-forced a = record { alternatives = alternatives (bytes a); anyway = true }
+forced a = record { alternatives = written (bytes a); anyway = true }
 
 abbrev case : List Use → String → Case
-case us listed = record { uses = us; listed = alternatives (bytes listed) }
+case us listed = record { uses = us; listed = written (bytes listed) }
 
 abbrev sameLists : List (List ℕ) → List (List ℕ) → Bool
 sameLists [] [] = true
@@ -55,10 +58,10 @@ cases =
     ∷ []
 
 pub worked : T (every holds cases)
-unfolding alternatives endsWith extend met step run
+unfolding splitAt endsWith extend met step run
 worked = tt
 
 -- "the branch list, at the start or after some step, is longer than room": room for one does not hold the two of the middle, nor none the start
 pub room : T (over 1 (takes "123456" ∷ takes "4|5" ∷ takes "123456" ∷ []) start && (not (over 2 (takes "123456" ∷ takes "4|5" ∷ takes "123456" ∷ []) start) && over 0 [] start))
-unfolding alternatives endsWith extend met step over
+unfolding splitAt endsWith extend met step over
 room = tt

@@ -12,7 +12,8 @@ use lib.Seq.{drop-drop, getD-drop}
 use Rattle.laws.specs.Lists.{cat, every}
 use Rattle.laws.proofs.Tests.{and-true, between-true}
 use Rattle.rule_text.specs.Forms.{until, count}
-use Rattle.rule_text.specs.Fields.{bar, alternatives, digit, isAlternative}
+use Rattle.rule_text.specs.Fields.{bar, alternatives}
+use Rattle.chars.specs.Digits.{digit, isAlternative}
 use Rattle.rule_text.proofs.Splits.{behind, split, bars}
 use Rattle.plate.specs.Bits.{bitsOf}
 use Rattle.builder.specs.Writing.{runBits, Fitting}

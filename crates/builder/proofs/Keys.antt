@@ -10,7 +10,7 @@ use lib.Dec.{ltb, leb, eqb}
 use lib.ListN.{length, take, drop, getD, length-append, length-drop}
 use lib.Seq.{length-take-le, take-append-seam}
 use Rattle.plate.specs.Plate.{Folding, Rule, firstCode, mayPrecede}
-use Rattle.plate.specs.Build.{foldingOf, putRule, putFolding}
+use Rattle.builder.specs.Build.{foldingOf, putRule, putFolding}
 use Rattle.builder.specs.Sort.{insert, paired, putPair}
 use Rattle.builder.specs.Survey.{key, placeIn, view, Sure, AllSure, foldingIn, Small, AllSmall}
 

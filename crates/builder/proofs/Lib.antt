@@ -1,3 +1,6 @@
+pub mod Faults
+pub mod Sorted
+pub mod Goods
 pub mod Bars
 pub mod Inks
 pub mod Keys

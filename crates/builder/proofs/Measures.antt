@@ -8,19 +8,20 @@ use native.Mathlib.Nat.{mul-suc}
 use borrow.Author.Tests.{leb-true}
 use lib.Dec.{eqb, leb}
 use lib.ListN.{length, length-append}
-use Rattle.laws.specs.Lists.{cat, every}
+use Rattle.laws.specs.Lists.{cat, every, onto, splitAt}
 use Rattle.laws.proofs.Tests.{and-true}
 use Rattle.rule_text.specs.Forms.{count}
-use Rattle.rule_text.specs.Fields.{bar, onto, alternatives, digit, isAlternative, fieldFault}
+use Rattle.rule_text.specs.Fields.{bar, alternatives, fieldFault}
+use Rattle.chars.specs.Digits.{digit, isAlternative}
 use Rattle.rule_text.proofs.Splits.{bars}
 use Rattle.plate.specs.Bits.{bitsOf}
 use Rattle.plate.specs.Plate.{Folding, Rule, mayPrecede}
 use Rattle.plate.specs.Written.{digitBits, alternativeBits, fieldBits, foldingBits, ruleBits}
-use Rattle.plate.specs.Build.{ruleOf, putRule}
+use Rattle.builder.specs.Build.{ruleOf, putRule}
 use Rattle.plate.proofs.Packed.{length-bitsOf}
 use Rattle.builder.specs.Survey.{FieldIs}
 use Rattle.builder.specs.declared.survey.Judged.the-variants.{Fine}
-use Rattle.plate.proofs.Faults.{field-digits}
+use Rattle.builder.proofs.Faults.{field-digits}
 
 -- Where each takes w bits, n of them take n times as many.
 pub cat-length : {A : Type 0} (f : A → List ℕ) (w : ℕ) → ((a : A) → length (f a) ≡ w) → (l : List A) → length (cat f l) ≡ w * length l
@@ -51,7 +52,7 @@ sum-onto x (a ∷ more) = omega arith
 
 -- What is no bar is in an alternative.
 sum-bars : (f : List ℕ) → sum (alternatives f) + count bar f ≡ length f
-unfolding count alternatives
+unfolding count splitAt
 sum-bars [] = refl
 sum-bars (x ∷ xs) = go (eqb x bar) (sum-bars xs)
   where

@@ -5,8 +5,8 @@ use mathlib.Core.Bool.{Bool, cond}
 use mathlib.Core.List.{List}
 use lib.Dec.{eqb}
 use Rattle.laws.proofs.Only.{only}
-use Rattle.plate.specs.Build as Build
-use Rattle.plate.specs.Build.{buildAnswer}
+use Rattle.builder.specs.Build as Build
+use Rattle.builder.specs.Build.{buildAnswer}
 use Rattle.builder.specs.Outcome.{told}
 use Rattle.builder.specs.declared.Fault.{Fault}
 use Rattle.builder.specs.declared.Fault.the-variants.{NotRecognised, EmptyPattern, LongPattern, ManyAlternatives, NotDigits, TooMany}

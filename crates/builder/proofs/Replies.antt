@@ -14,9 +14,9 @@ use Rattle.chars.specs.declared.Checked.{Checked}
 use Rattle.chars.specs.declared.Checked.the-variants.{BadAt, Text}
 use Rattle.chars.proofs.Checks.{says}
 use Rattle.rule_text.specs.Items.{items, firstLine}
-use Rattle.plate.specs.Build as Build
-use Rattle.plate.specs.Build.{Book, blank, verdict, refusal, delivered, answered, nonzero, buildAnswer}
-use Rattle.plate.specs.Build.Verdict.{Faulty, Fine}
+use Rattle.builder.specs.Build as Build
+use Rattle.builder.specs.Build.{Book, blank, verdict, refusal, delivered, answered, nonzero, buildAnswer}
+use Rattle.builder.specs.Build.Verdict.{Faulty, Fine}
 use Rattle.builder.specs.Pen.{Stored}
 use Rattle.builder.specs.Writing.{bytesOf}
 

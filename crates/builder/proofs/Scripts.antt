@@ -17,7 +17,7 @@ use Rattle.rule_text.specs.declared.Entry.the-variants as E
 use Rattle.plate.specs.Bits.{bitsOf, pack}
 use Rattle.plate.specs.Plate.{Rule}
 use Rattle.plate.specs.Written.{flagBit, fieldBits, ruleBits, foldingBits}
-use Rattle.plate.specs.Build.{ruleOf, ruleFault}
+use Rattle.builder.specs.Build.{ruleOf, ruleFault}
 use Rattle.plate.proofs.Packed.{length-bitsOf}
 use Rattle.builder.specs.Pen.{begin, bitsIn, Ready, Wrote, Stored, Finished}
 use Rattle.builder.specs.Survey.{placeIn, itemAt, ruleSaid, view, Flawless, Sure, foldingIn, bookOf, Kept}

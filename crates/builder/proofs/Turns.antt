@@ -22,8 +22,8 @@ use Rattle.rule_text.specs.declared.Entry.the-variants as E
 use Rattle.rule_text.proofs.Walk as Walk
 use Rattle.plate.specs.Plate.{Folding, Rule, firstCode}
 use Rattle.plate.specs.Written.{ruleBits}
-use Rattle.plate.specs.Build.{Book, ruleOf, foldingOf, putRule, putFolding, ruleFault, when, fault, enter, Verdict, unless, verdict}
-use Rattle.plate.specs.Build.Verdict.{Faulty, Fine}
+use Rattle.builder.specs.Build.{Book, ruleOf, foldingOf, putRule, putFolding, ruleFault, when, fault, enter, Verdict, unless, verdict}
+use Rattle.builder.specs.Build.Verdict.{Faulty, Fine}
 use Rattle.builder.specs.Sort.{insert, putPair, PutIs}
 use Rattle.builder.specs.Survey.{key, placeIn, itemAt, ruleSaid, view, Flawless, Sure, AllSure, foldingIn, AllSmall, bookOf, Kept, numberOf, passed, ruled, Entered, PairEntered, onward, RuleIs, TurnIs}
 use Rattle.builder.specs.declared.Fault.{Fault}
@@ -33,7 +33,7 @@ use Rattle.builder.specs.declared.survey.Judged.the-variants as Judged
 use Rattle.builder.specs.declared.survey.Tally.{Tally}
 use Rattle.builder.specs.declared.survey.Turn.{Turn}
 use Rattle.builder.specs.declared.survey.Turn.the-variants.{On, Stop}
-use Rattle.plate.proofs.Faults.{clean}
+use Rattle.builder.proofs.Faults.{clean}
 use Rattle.builder.proofs.Ways.{numbered}
 use Rattle.builder.proofs.Measures.{put-bits}
 use Rattle.builder.proofs.Keys.{key-place, all-later, all-insert, put-view, first-keys, keys-length, put-small, put-folding-view, first-pairs, pairs-length}

@@ -8,8 +8,8 @@ use borrow.Author.Tests.{eq-eqb, ne-eqb, lt-ltb, le-ltb, le-leb, lt-leb}
 use lib.Dec.{ltb, leb, eqb}
 use lib.ListN.{length}
 use Rattle.rule_text.specs.Fields.{fieldFault}
-use Rattle.plate.specs.Build.{when, firstFault, ruleFault}
-use Rattle.plate.proofs.Faults.{pass}
+use Rattle.builder.specs.Build.{when, firstFault, ruleFault}
+use Rattle.builder.proofs.Faults.{pass}
 use Rattle.builder.specs.Survey.{numberOf, FieldIs, RuleIs}
 use Rattle.builder.specs.declared.Fault.{Fault}
 use Rattle.builder.specs.declared.Fault.the-variants.{NotRecognised, EmptyPattern, LongPattern, ManyAlternatives, NotDigits, TooMany}

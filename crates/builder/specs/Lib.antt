@@ -1,3 +1,5 @@
+pub mod Build
+pub mod Worked
 pub mod Pen
 pub mod Sort
 pub mod Survey

@@ -1,8 +1,8 @@
 -- What build's answer says: 01's number, line and length for each case, and the lent buffer afterwards. 01, "Numbers that come back". Assumes nothing.
 use Prim.Native.Nat.{ℕ}
 use mathlib.Core.List.{List}
-use Rattle.plate.specs.Build as Build
-use Rattle.plate.specs.Build.{refusal}
+use Rattle.builder.specs.Build as Build
+use Rattle.builder.specs.Build.{refusal}
 use Rattle.builder.specs.Survey.{numberOf}
 use Rattle.builder.specs.declared.Built.{Built}
 use Rattle.builder.specs.declared.Built.the-variants.{Plate, LongText, NotText, Faulty, ShortBuffer}

@@ -12,8 +12,8 @@ use Rattle.rule_text.specs.Items.Item.{RuleItem, FoldingItem, LineEndItem, Comm
 use Rattle.rule_text.specs.Fields.{alternatives, fieldFault}
 use Rattle.plate.specs.Plate.{Folding, Rule, firstCode, edition1, mostFoldings}
 use Rattle.plate.specs.Written.{fieldBits, ruleBits}
-use Rattle.plate.specs.Build.{Book, ruleOf, foldingOf, ruleFault, Verdict, verdict}
-use Rattle.plate.specs.Build.Verdict.{Faulty, Fine}
+use Rattle.builder.specs.Build.{Book, ruleOf, foldingOf, ruleFault, Verdict, verdict}
+use Rattle.builder.specs.Build.Verdict.{Faulty, Fine}
 use Rattle.builder.specs.Sort.{insert, putPair}
 use Rattle.builder.specs.declared.Fault.{Fault}
 use Rattle.builder.specs.declared.Fault.the-variants.{NotRecognised, EmptyPattern, LongPattern, ManyAlternatives, NotDigits, TooMany}

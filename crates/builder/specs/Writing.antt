@@ -6,7 +6,7 @@ use Rattle.laws.specs.Lists.{cat}
 use Rattle.plate.specs.Bits.{bitsOf}
 use Rattle.plate.specs.Plate.{edition1}
 use Rattle.plate.specs.Written.{flagBit, plateBytes}
-use Rattle.plate.specs.Build.{Book}
+use Rattle.builder.specs.Build.{Book}
 
 -- each byte, less `less`, in so many bits
 abbrev pub runBits : ℕ → ℕ → List ℕ → List ℕ

@@ -5,7 +5,7 @@ mod survey; // survey.rt: the items front to back, the first fault deciding
 mod write; // write.rt: what a text says, written as a plate's bits
 
 ghost use mathlib.Core.Path.{_≡_};
-ghost use Rattle.plate.specs.Build.{buildAnswer};
+ghost use Rattle.builder.specs.Build.{buildAnswer};
 ghost use Rattle.builder.specs.Outcome.{told};
 use chars::Checked;
 use chars::utf8::check_text;

@@ -5,7 +5,7 @@ ghost use Prim.Native.Nat.{_≤_, _<_};
 ghost use lib.ListN.{length};
 ghost use Rattle.chars.specs.Utf8.{charOf, codeOf};
 ghost use Rattle.rule_text.specs.Items.{items, firstLine};
-ghost use Rattle.plate.specs.Build.{blank, verdict};
+ghost use Rattle.builder.specs.Build.{blank, verdict};
 ghost use Rattle.builder.specs.Survey.{key, FieldIs, RuleIs, Entered, PairEntered, Kept, TurnIs, SurveyIs, passed};
 use super::Fault;
 use super::sort::Put;

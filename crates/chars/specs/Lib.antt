@@ -4,3 +4,4 @@ pub mod Quoted
 pub mod Answers
 pub mod Table
 pub mod Worked
+pub mod Digits

@@ -13,7 +13,7 @@ use Rattle.laws.specs.Lists.{every, between}
 use Rattle.laws.specs.Arrays.{Each}
 use Rattle.laws.proofs.Tests.{and-true, between-true}
 use Rattle.laws.proofs.Cuts.{every-take}
-use Rattle.rule_text.specs.Fields.{isAlternative, digit}
+use Rattle.chars.specs.Digits.{isAlternative, digit}
 use Rattle.plate.specs.Plate.{Rule, goodRule, goodPattern, goodField}
 use Rattle.plate.specs.Stands.{fieldOf, held, heldField}
 use Rattle.plate.specs.Field.{AlternativeOk, alternativeOf, FieldOk, alternativesOf}

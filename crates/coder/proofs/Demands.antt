@@ -8,28 +8,21 @@ use mathlib.Core.List.{List, [], _∷_, map}
 use native.Mathlib.Omega.{arith}
 use borrow.Author.Tests.{leb-true, leb-false, le-ltb}
 use lib.Dec.{ltb, leb}
-use lib.ListN.{length, take}
+use lib.ListN.{length}
 use Rattle.laws.specs.Lists.{In, every}
 use Rattle.laws.proofs.Tests.{and-true, by-test, between-true}
 use Rattle.chars.specs.Utf8.{isText, charsOf}
-use Rattle.rule_text.specs.Items.{items, firstLine}
 use Rattle.plate.specs.Plate.{Plate, edition1, goodRule, ordered}
 use Rattle.plate.specs.Read.{plateAt, acceptedIn, readPlate}
-use Rattle.plate.specs.Build.{Book, blank, Built, buildAnswer}
-use Rattle.plate.proofs.Packed.{Bytes}
-use Rattle.plate.proofs.Goods.{plateOf, build-accepted}
 use Rattle.branches.specs.Branches.{Use, start, over, codes}
-use Rattle.branches.specs.Choice.{Chosen, yielded, Filled, firsts, firstOnly, Wider, Starts}
-use Rattle.branches.proofs.Choice.{chosen-listed, listed-chosen, first-listed, firsts-alone, wider-listed, wider-first}
+use Rattle.branches.specs.Choice.{Chosen, yielded, Filled, firsts, firstOnly, Starts}
+use Rattle.branches.proofs.Choice.{chosen-listed, listed-chosen, first-listed, firsts-alone}
 use Rattle.branches.proofs.Room.{more-room}
 use Rattle.coder.specs.Name.{allowed, prepared}
-use Rattle.coder.specs.Walk.{uses}
 use Rattle.coder.specs.Answer.{Coded, refusal, listing, smaller, room, listed, encoded, named, plated, listAnswer, encodeAnswer}
-use Rattle.coder.specs.Wider.{WiderItems, WiderRules}
 use Rattle.coder.specs.Given.{Given, usesIn}
 use Rattle.plate.proofs.Facts.{rules-good, rules-ordered}
 use Rattle.coder.proofs.Firsts.{goodUse, uses-good}
-use Rattle.coder.proofs.Wider.{books-wider, uses-wider}
 
 -- ---- what an answer of 0 says
 
@@ -84,7 +77,7 @@ room-grows lent lent′ h =
 -- ---- an accepted plate
 
 -- the same plate
-some-inj : (x y : Plate) → some x ≡ some y → x ≡ y
+pub some-inj : (x y : Plate) → some x ≡ some y → x ≡ y
 some-inj x y e = ap (λ (o : Option Plate). held o) e
   where
     held : Option Plate → Plate
@@ -92,7 +85,7 @@ some-inj x y e = ap (λ (o : Option Plate). held o) e
     held none = x
 
 -- The plate is a good one, so each use has an alternative.
-filled : (plate name : List ℕ) (p : Plate) → readPlate plate ≡ some p → Filled (usesIn p name)
+pub filled : (plate name : List ℕ) (p : Plate) → readPlate plate ≡ some p → Filled (usesIn p name)
 filled plate name p read = all-filled (usesIn p name) (uses-good (p .rules) (good .0) (good .1) (prepared p name))
   where
     some-alternative : (u : Use) (more : List Use) → every goodUse (u ∷ more) ≡ true → (0 < length (u .alternatives)) × (every goodUse more ≡ true)
@@ -176,61 +169,3 @@ module _ (plate name : List ℕ) where
         let a = answered listed (readPlate plate) name lent number-0 in
         let same = some-inj (a .0) p (sym (a .1) ∙ g .read) in
         a .2 encoded lent′ ∙ ap (λ (q : Plate). encoded (usesIn q name) lent′) same ∙ encoded-alone us lent′ (filled plate name p (g .read)) (le-ltb (length lent′) 6 h)
-
--- ---- c) Further alternatives behind a rule's keep every earlier code and the first.
-
--- the plate that build wrote
-abbrev pub platePart : Built → List ℕ
-platePart a = take (a .length) (a .buffer)
-
-module _ (text text′ : List ℕ) (flag : Bool) (room₁ room₂ : List ℕ) (bytes : Bytes text) (bytes′ : Bytes text′) (wider : WiderItems (items text) (items text′))
-    (built : buildAnswer text flag room₁ .number ≡ 0) (built′ : buildAnswer text′ flag room₂ .number ≡ 0) where
-  abbrev plate₁ : List ℕ
-  plate₁ = platePart (buildAnswer text flag room₁)
-
-  abbrev plate₂ : List ℕ
-  plate₂ = platePart (buildAnswer text′ flag room₂)
-
-  module _ (name lent lent′ : List ℕ) (p p′ : Plate) (cs cs′ : List (List ℕ)) (g : Given plate₁ name lent p cs) (g′ : Given plate₂ name lent′ p′ cs′) where
-    -- the plates that the texts say
-    said : (b b′ : Book) × (p ≡ plateOf flag b) × (p′ ≡ plateOf flag b′) × (b′ .foldings ≡ b .foldings) × WiderRules (b .rules) (b′ .rules)
-    said =
-        let a = build-accepted text flag room₁ bytes built in
-        let a′ = build-accepted text′ flag room₂ bytes′ built′ in
-        let w = books-wider firstLine firstLine blank blank (items text) (items text′) wider (refl, tt) (a .0) (a′ .0) (a .1) (a′ .1) in (
-          a .0,
-          a′ .0,
-          some-inj p (plateOf flag (a .0)) (sym (g .read) ∙ a .3),
-          some-inj p′ (plateOf flag (a′ .0)) (sym (g′ .read) ∙ a′ .3),
-          w .0,
-          w .1,
-        )
-
-    wider-uses : Wider (usesIn p name) (usesIn p′ name)
-    wider-uses =
-        let s = said in
-        let b = s .0 in
-        let b′ = s .1 in
-        let same : prepared (plateOf flag b′) name ≡ prepared (plateOf flag b) name = λ i. prepared (record { flag = flag; foldings = s .4 i; rules = [] }) name in
-        subst (λ (q : Plate). Wider (usesIn q name) (usesIn p′ name)) (sym (s .2))
-        (subst (λ (q : Plate). Wider (usesIn (plateOf flag b) name) (usesIn q name)) (sym (s .3))
-        (subst (λ (x : List ℕ). Wider (usesIn (plateOf flag b) name) (uses (b′ .rules) x)) (sym same) (uses-wider (b .rules) (b′ .rules) (s .5) (prepared (plateOf flag b) name))))
-
-    -- Every earlier code is given still.
-    pub code-kept : (k : List ℕ) → In k cs → In k cs′
-    code-kept k i = subst (In k) (sym (g′ .all)) (wider-listed (usesIn p name) (usesIn p′ name) wider-uses k (subst (In k) (g .all) i))
-
-    -- The first is the same.
-    pub first-kept : (k : List ℕ) → Starts k cs → Starts k cs′
-    first-kept k s =
-        let us = usesIn p name in
-        let f = filled plate₁ name p (g .read) in
-        let same = head-same (first-listed us f) (subst (Starts k) (g .all) s) in
-        subst (λ (x : List ℕ). Starts x cs′) same (subst (Starts (yielded us (firsts us))) (sym (g′ .all)) (wider-first us (usesIn p′ name) wider-uses f))
-      where
-        head-same : {x y : List ℕ} {l : List (List ℕ)} → Starts x l → Starts y l → x ≡ y
-        head-same {x} {y} a b = ap (λ (l : List (List ℕ)). headOr x l) (sym (a .1) ∙ b .1)
-          where
-            headOr : List ℕ → List (List ℕ) → List ℕ
-            headOr d [] = d
-            headOr d (z ∷ zs) = z

@@ -14,7 +14,7 @@ use Rattle.laws.specs.Lists.{every, between, begins}
 use Rattle.laws.proofs.Tests.{and-true, both-true, by-test, between-true}
 use Rattle.laws.proofs.Bits.{by-order}
 use Rattle.laws.proofs.Many.{every-append}
-use Rattle.rule_text.specs.Fields.{isAlternative}
+use Rattle.chars.specs.Digits.{isAlternative}
 use Rattle.plate.specs.Plate.{Rule, goodRule, goodField, ordered}
 use Rattle.branches.specs.Branches.{Use, start, over, codes}
 use Rattle.branches.specs.Choice.{Single}

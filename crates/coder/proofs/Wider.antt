@@ -1,83 +1,17 @@
--- Two texts whose items differ only in further alternatives build plates whose rules differ only so, and along every name such rules are used at the same
--- places: which rule is used rests on patterns alone. Assumes nothing.
+-- Along every name rules that differ only in further alternatives are used at the same places: which rule is used rests on patterns alone. Assumes nothing.
 use mathlib.Core.Path.{_≡_, refl, sym, ap, ap₂, subst}
-use mathlib.Core.Bool.{Bool, true, false, cond, _&&_, _||_, false≢true}
+use mathlib.Core.Bool.{Bool, true, false, cond}
 use mathlib.Core.Option.{Option, none, some}
 use mathlib.Core.List.{List, [], _∷_, _++_}
 use Prim.Native.Nat.{ℕ, zero, suc, _-_}
-use lib.Dec.{ltb, leb, eqb}
+use lib.Dec.{ltb}
 use lib.ListN.{length, drop}
 use Rattle.laws.specs.Lists.{keep, begins}
-use Rattle.rule_text.specs.Items.{Item, lineBehind}
-use Rattle.rule_text.specs.Items.Item.{RuleItem, FoldingItem, LineEndItem, CommentItem, UnknownItem}
-use Rattle.plate.specs.Plate.{Rule, firstCode, mayPrecede}
-use Rattle.plate.specs.Build.{Book, putRule, putFolding, ruleOf, foldingOf, enter, fault, Verdict, unless, verdict}
-use Rattle.plate.specs.Build.Verdict.{Faulty, Fine}
+use Rattle.plate.specs.Plate.{Rule}
 use Rattle.branches.specs.Branches.{Use}
 use Rattle.branches.specs.Choice.{Wider}
 use Rattle.coder.specs.Walk.{letters, startsWith, group, longer, longest, match, field, vowelFollows, Passed, matched, passed, walk, uses}
-use Rattle.coder.specs.Wider.{Further, WiderItem, WiderItems, WiderRule, WiderRules}
-
--- ---- from items to rules
-
--- the same foldings, and wider rules
-abbrev WiderBook : Book → Book → Type 0
-WiderBook b c = (c .foldings ≡ b .foldings) × WiderRules (b .rules) (c .rules)
-
-may-same : (r q r′ q′ : Rule) → r′ .pattern ≡ r .pattern → q′ .pattern ≡ q .pattern → mayPrecede r′ q′ ≡ mayPrecede r q
-may-same r q r′ q′ e f i = ltb (code (e i)) (code (f i)) || (eqb (code (e i)) (code (f i)) && leb (length (f i)) (length (e i)))
-  where
-    code : List ℕ → ℕ
-    code p = firstCode (record { pattern = p; start = []; vowel = []; other = [] })
-
-put-wider : (r r′ : Rule) (rs rs′ : List Rule) → WiderRule r r′ → WiderRules rs rs′ → WiderRules (putRule r rs) (putRule r′ rs′)
-put-wider r r′ [] [] h w = (h, tt)
-put-wider r r′ [] (q ∷ qs) h w = absurd w
-put-wider r r′ (q ∷ qs) [] h w = absurd w
-put-wider r r′ (q ∷ qs) (q′ ∷ qs′) h w =
-    subst (λ (t : Bool). WiderRules (putRule r (q ∷ qs)) (cond t (q′ ∷ putRule r′ qs′) (r′ ∷ q′ ∷ qs′))) (sym (may-same q r q′ r′ (w .0 .0) (h .0)))
-    (go (mayPrecede q r) (put-wider r r′ qs qs′ h (w .1)))
-  where
-    go : (t : Bool) → WiderRules (putRule r qs) (putRule r′ qs′) → WiderRules (cond t (q ∷ putRule r qs) (r ∷ q ∷ qs)) (cond t (q′ ∷ putRule r′ qs′) (r′ ∷ q′ ∷ qs′))
-    go true below = (w .0, below)
-    go false below = (h, (w .0, w .1))
-
-enter-wider : (i j : Item) (b c : Book) → WiderItem i j → WiderBook b c → WiderBook (enter i b) (enter j c)
-enter-wider (RuleItem p s v o) (RuleItem p′ s′ v′ o′) b c h w = (w .0, put-wider (ruleOf p s v o) (ruleOf p′ s′ v′ o′) (b .rules) (c .rules) h (w .1))
-enter-wider (RuleItem p s v o) (FoldingItem k t) b c h w = absurd h
-enter-wider (RuleItem p s v o) LineEndItem b c h w = absurd h
-enter-wider (RuleItem p s v o) (CommentItem n) b c h w = absurd h
-enter-wider (RuleItem p s v o) UnknownItem b c h w = absurd h
-enter-wider (FoldingItem k t) j b c h w = subst (λ (x : Item). WiderBook (enter (FoldingItem k t) b) (enter x c)) (sym h) (ap (putFolding (foldingOf k t)) (w .0), w .1)
-enter-wider LineEndItem j b c h w = subst (λ (x : Item). WiderBook b (enter x c)) (sym h) w
-enter-wider (CommentItem n) j b c h w = subst (λ (x : Item). WiderBook b (enter x c)) (sym h) w
-enter-wider UnknownItem j b c h w = subst (λ (x : Item). WiderBook b (enter x c)) (sym h) w
-
--- Where both texts are without fault, the books they make are wider.
-is-fine : Verdict → Bool
-is-fine (Faulty n line) = false
-is-fine (Fine b) = true
-
-book : Book → Verdict → Book
-book d (Faulty n line) = d
-book d (Fine b) = b
-
-unless-fine : (n line : ℕ) (v : Verdict) (b : Book) → unless n line v ≡ Fine b → v ≡ Fine b
-unfolding is-fine
-unless-fine zero line v b e = e
-unless-fine (suc n) line v b e = absurd (false≢true (ap is-fine e))
-
-pub books-wider : (line line′ : ℕ) (b c : Book) (is js : List Item) → WiderItems is js → WiderBook b c → (d e : Book)
-    → verdict line b is ≡ Fine d → verdict line′ c js ≡ Fine e → WiderBook d e
-unfolding verdict book
-books-wider line line′ b c [] [] h w d e x y = subst (λ (z : Book). WiderBook z e) (ap (book b) x) (subst (λ (z : Book). WiderBook b z) (ap (book c) y) w)
-books-wider line line′ b c [] (j ∷ js) h w d e x y = absurd h
-books-wider line line′ b c (i ∷ is) [] h w d e x y = absurd h
-books-wider line line′ b c (i ∷ is) (j ∷ js) h w d e x y =
-    books-wider (lineBehind line i) (lineBehind line′ j) (enter i b) (enter j c) is js (h .1) (enter-wider i j b c (h .0) w) d e
-    (unless-fine (fault i b) line (verdict (lineBehind line i) (enter i b) is) d x) (unless-fine (fault j c) line′ (verdict (lineBehind line′ j) (enter j c) js) e y)
-
--- ---- from rules to uses
+use Rattle.coder.specs.Wider.{Further, WiderRule, WiderRules}
 
 keep-wider : (t : List ℕ → Bool) (rs qs : List Rule) → WiderRules rs qs → WiderRules (keep (λ r. t (letters r)) rs) (keep (λ r. t (letters r)) qs)
 keep-wider t [] [] w = tt

@@ -5,7 +5,5 @@ pub mod Held
 pub mod Wider
 pub mod Answer
 pub mod Numbers
-pub mod Case
-pub mod Starred
-pub mod Pinned
 pub mod Given
+pub mod Worked

@@ -44,6 +44,16 @@ begins (x ∷ xs) (y ∷ ys) = eqb x y && begins xs ys
 abbrev pub cut : List ℕ → ℕ → ℕ → List ℕ
 cut l from to = take (to - from) (drop from l)
 
+-- c in front of the first of some lists
+abbrev pub onto : ℕ → List (List ℕ) → List (List ℕ)
+onto c [] = (c ∷ []) ∷ []
+onto c (l ∷ more) = (c ∷ l) ∷ more
+
+-- a list split at each b: one part more than there are b's
+unfoldable pub splitAt : ℕ → List ℕ → List (List ℕ)
+splitAt b [] = [] ∷ []
+splitAt b (x ∷ xs) = let more = splitAt b xs in cond (eqb x b) ([] ∷ more) (onto x more)
+
 -- one list of bits or bytes for each, one behind the other
 abbrev pub cat : {A : Type 0} → (A → List ℕ) → List A → List ℕ
 cat f [] = []

@@ -14,7 +14,7 @@ use Rattle.laws.proofs.Tests.{and-true, and-left-false, and-right-false, is-bet
 use Rattle.laws.proofs.Bits.{by-order}
 use Rattle.laws.proofs.Many.{and-holds, and-right-holds, and-swap, and-cross, every-append}
 use Rattle.chars.specs.Utf8.{charOf, codeOf, scalar}
-use Rattle.rule_text.specs.Fields.{digit, isAlternative}
+use Rattle.chars.specs.Digits.{digit, isAlternative}
 use Rattle.plate.specs.Bits.{numberAt}
 use Rattle.plate.specs.Plate.{Folding, Rule, Edition, mostFoldings, goodField, goodPattern, goodRule, nonzeroScalar, goodFolding, rising, firstCode, ordered}
 use Rattle.plate.specs.Read.{many, past, alternativeAt, alternativeEnd, fieldAt, fieldEnd, ruleAt, ruleEnd, foldingAt, foldingEnd, ruleCount, foldingCount, reserved, rulesPlace, plateAt, plateEnd, closed, acceptedIn}

@@ -10,6 +10,3 @@ pub mod Noting
 pub mod Halves
 pub mod Parts
 pub mod Only
-pub mod Sorted
-pub mod Faults
-pub mod Goods

@@ -19,7 +19,7 @@ use Rattle.chars.specs.Utf8.{charOf, charsOf, isText, codeOf, widthOf}
 use Rattle.chars.specs.declared.Char.the-variants.{One}
 use Rattle.chars.proofs.Texts.{text-front, chars-front}
 use Rattle.chars.proofs.Exact.{decoded-one, bytes-count}
-use Rattle.rule_text.specs.Fields.{digit, isAlternative}
+use Rattle.chars.specs.Digits.{digit, isAlternative}
 use Rattle.plate.specs.Bits.{numberAt}
 use Rattle.plate.specs.Plate.{Folding, nonzeroByte, goodField, goodPattern, rising}
 use Rattle.plate.specs.Read.{many, past, alternativeAt, alternativeEnd, fieldAt, fieldEnd, patternAt, ruleAt, foldingAt, foldingEnd, foldBy}

@@ -17,7 +17,7 @@ use Rattle.laws.proofs.Tests.{and-true, both-true, between-true}
 use Rattle.laws.proofs.Bits.{join-four, join-five}
 use Rattle.chars.specs.Utf8.{scalar, isText}
 use Rattle.chars.proofs.Exact.{scalar-most}
-use Rattle.rule_text.specs.Fields.{digit, isAlternative}
+use Rattle.chars.specs.Digits.{digit, isAlternative}
 use Rattle.plate.specs.Bits.{bitsOf, unpack, pack, numberAt}
 use Rattle.plate.specs.Plate.{Folding, Rule, Plate, Edition, edition1, mostFoldings, goodField, nonzeroByte, goodPattern, goodRule, nonzeroScalar, goodFolding, rising, ordered, goodFoldings, goodRules, goodPlate}
 use Rattle.plate.specs.Written.{counted, digitBits, alternativeBits, fieldBits, ruleBits, foldingBits, flagBit, headBits, plateBits, plateBytes}

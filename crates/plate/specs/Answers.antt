@@ -8,7 +8,7 @@ use Rattle.laws.specs.Lists.{every}
 use Rattle.chars.specs.Utf8.{charOf, codeOf, isText}
 use Rattle.chars.specs.declared.Char.{Char}
 use Rattle.chars.specs.declared.Char.the-variants.{One, Bad, End}
-use Rattle.rule_text.specs.Fields.{isAlternative}
+use Rattle.chars.specs.Digits.{isAlternative}
 use Rattle.plate.specs.Bits.{numberAt}
 use Rattle.plate.specs.Plate.{Folding, Rule, Edition, nonzeroByte, goodField, goodPattern, goodRule, goodFolding, rising, firstCode, ordered}
 use Rattle.plate.specs.Read.{many, past, alternativeAt, alternativeEnd, fieldAt, fieldEnd, ruleAt, ruleEnd, foldingAt, foldingEnd}

@@ -6,7 +6,7 @@ use lib.Dec.{ltb, leb, eqb}
 use lib.ListN.{length}
 use Rattle.laws.specs.Lists.{between, every}
 use Rattle.chars.specs.Utf8.{charOf, codeOf, isText, scalar}
-use Rattle.rule_text.specs.Fields.{isAlternative}
+use Rattle.chars.specs.Digits.{isAlternative}
 
 pub record Folding : Type 0 where
   pub key : ℕ

@@ -1,54 +1,20 @@
--- Worked plates, and bytes that are none, by computation. The third plate was made by a writer of its own, from 01's words. Assumes nothing.
-use Prim.Native.Nat.{ℕ, _-_}
+-- A worked plate, read back, and bytes that are no plate, by computation. Assumes nothing.
+use Prim.Native.Nat.{ℕ}
 use mathlib.Core.Path.{_≡_, refl}
-use mathlib.Core.Bool.{Bool, true, false, _&&_, not}
+use mathlib.Core.Bool.{true, not}
 use mathlib.Core.Option.{some}
-use mathlib.Core.List.{List, [], _∷_, _++_}
-use lib.Dec.{T, eqb}
-use lib.ListN.{length, replicate}
-use Rattle.laws.specs.Lists.{every, same}
+use mathlib.Core.List.{List, [], _∷_}
+use lib.Dec.{T}
+use Rattle.laws.specs.Lists.{every}
 use Rattle.chars.specs.Utf8.{textFrom}
-use Rattle.chars.specs.Quoted.{bytes, lines}
-use Rattle.rule_text.specs.Forms.{entry, quadruplet, folding, multilineComment, endOfLine, ending, comment, blanks, until, count, later, pairAt, lineAt, part, plain, escaped, partAt, letterAt, closing}
-use Rattle.rule_text.specs.Items.{itemsFrom}
-use Rattle.rule_text.specs.Fields.{alternatives}
+use Rattle.chars.specs.Quoted.{bytes}
 use Rattle.plate.specs.Bits.{bit, numberAt}
 use Rattle.plate.specs.Plate.{edition1}
 use Rattle.plate.specs.Read.{readPlate, acceptedIn}
-use Rattle.plate.specs.Build.{Built, buildAnswer, verdict, ruleFault}
 
--- 01: "Whole example: `"a" "0" "" ""` and a newline, flag on: `01 00 40 20 0B 08 90 10 20`. Empty text, flag on: `01 00 00 20`."
-abbrev whole : List ℕ
+-- 01: "Whole example: `"a" "0" "" ""` and a newline, flag on: `01 00 40 20 0B 08 90 10 20`."
+abbrev pub whole : List ℕ
 whole = 0x01 ∷ 0x00 ∷ 0x40 ∷ 0x20 ∷ 0x0B ∷ 0x08 ∷ 0x90 ∷ 0x10 ∷ 0x20 ∷ []
-
-abbrev empty : List ℕ
-empty = 0x01 ∷ 0x00 ∷ 0x00 ∷ 0x20 ∷ []
-
--- Four rules and two foldings, flag off: first code point rising, byte length falling (aé has three), text order; a later folding replaces the earlier.
-abbrev ordering : List ℕ
-ordering =
-    0x01 ∷ 0x01 ∷ 0x00 ∷ 0x80 ∷ 0x00 ∷ 0x07 ∷ 0x00 ∷ 0x00 ∷ 0x18 ∷ 0x80 ∷ 0x01 ∷ 0xD2 ∷ 0x00 ∷ 0x06 ∷ 0x51 ∷ 0xB0 ∷ 0xE1 ∷ 0xD4 ∷ 0x89 ∷ 0x31 ∷ 0x02 ∷ 0x04
-    ∷ 0xC2 ∷ 0xC2 ∷ 0x24 ∷ 0x84 ∷ 0x08 ∷ 0x13 ∷ 0x0B ∷ 0x09 ∷ 0x14 ∷ 0x4A ∷ 0xC2 ∷ 0x04 ∷ 0x05 ∷ 0x88 ∷ 0x48 ∷ 0x88 ∷ 0x10 ∷ []
-
-abbrev built : Built → ℕ → ℕ → List ℕ → Bool
-built b number n buffer = eqb (b .number) number && (eqb (b .line) 0 && (eqb (b .length) n && same (b .buffer) buffer))
-
--- a text and a flag build these bytes: into a buffer of just so many, with a byte behind, and not into one byte less
-abbrev builds : List ℕ → Bool → List ℕ → Bool
-builds text flag plate =
-    let n = length plate in
-    let exact = buildAnswer text flag plate in
-    let roomy = buildAnswer text flag (replicate n 7 ++ (7 ∷ [])) in
-    let tight = buildAnswer text flag (replicate (n - 1) 7) in
-    built exact 0 n plate && (built roomy 0 n (plate ++ (7 ∷ [])) && built tight 9 0 (replicate (n - 1) 7))
-
-pub worked : T (
-    builds (bytes "\"a\" \"0\" \"\" \"\"\n") true whole
-    && (builds [] true empty
-    && builds (lines ("é=e" ∷ "à=a" ∷ "\"b\" \"1\" \"\" \"\"" ∷ "\"aa\" \"2\" \"\" \"\"" ∷ "\"aé\" \"3\" \"\" \"\"" ∷ "à=b" ∷ "\"aa\" \"4|56\" \"\" \"\"" ∷ [])) false ordering)
-    )
-unfolding buildAnswer verdict textFrom alternatives entry quadruplet folding multilineComment endOfLine ending comment blanks until count later pairAt lineAt part plain escaped partAt letterAt closing itemsFrom
-worked = tt
 
 -- what is read back
 pub read-back : readPlate whole
@@ -88,8 +54,3 @@ spoilt =
 pub refused : T (every (λ s. not (acceptedIn edition1 s)) spoilt)
 unfolding numberAt bit textFrom
 refused = tt
-
--- 8: "rule 513", when 512 stand before it
-pub full : (ruleFault (bytes "a") [] [] [] 511 ≡ 0) × (ruleFault (bytes "a") [] [] [] 512 ≡ 8) × (ruleFault (bytes "a") [] [] (bytes "x") 512 ≡ 7)
-unfolding alternatives
-full = (refl, refl, refl)

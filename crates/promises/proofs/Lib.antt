@@ -1,2 +1,3 @@
+pub mod Wider
 pub mod Numbers
 pub mod Promises

@@ -13,12 +13,13 @@ use Rattle.laws.proofs.Tests.{by-test}
 use Rattle.chars.specs.Utf8.{isText, charsOf}
 use Rattle.rule_text.specs.Items.{Item, items, firstLine, lineBehind}
 use Rattle.rule_text.specs.Items.Item.{RuleItem, FoldingItem, LineEndItem, CommentItem, UnknownItem}
-use Rattle.rule_text.specs.Fields.{alternatives, isAlternative, fieldFault}
+use Rattle.rule_text.specs.Fields.{alternatives, fieldFault}
+use Rattle.chars.specs.Digits.{isAlternative}
 use Rattle.plate.specs.Plate.{Plate, edition1, mostFoldings}
 use Rattle.plate.specs.Written.{plateBytes}
 use Rattle.plate.specs.Read.{readPlate}
-use Rattle.plate.specs.Build.{Book, blank, putFolding, foldingOf, enter, when, firstFault, fault, Verdict, unless, verdict, Built, refusal, delivered, answered, nonzero, buildAnswer}
-use Rattle.plate.specs.Build.Verdict.{Faulty, Fine}
+use Rattle.builder.specs.Build.{Book, blank, putFolding, foldingOf, enter, plateOf, when, firstFault, fault, Verdict, unless, verdict, Built, refusal, delivered, answered, nonzero, buildAnswer}
+use Rattle.builder.specs.Build.Verdict.{Faulty, Fine}
 use Rattle.branches.specs.Branches.{Use, start, over, codes}
 use Rattle.branches.specs.Choice.{firstOnly}
 use Rattle.coder.specs.Name.{allowed}
@@ -99,7 +100,7 @@ delivered-refuses plate lent =
 
 verdict-refuses : (flag : Bool) (lent : List ℕ) (v : Verdict) → Small v → BuildRefuses lent (answered flag lent v)
 verdict-refuses flag lent (Faulty n line) h = let k = h .1 in refused n line lent (omega arith)
-verdict-refuses flag lent (Fine b) h = delivered-refuses (plateBytes edition1 (record { flag = flag; foldings = b .foldings; rules = b .rules })) lent
+verdict-refuses flag lent (Fine b) h = delivered-refuses (plateBytes edition1 (plateOf flag b)) lent
 
 pub build-refuses : (text : List ℕ) (flag : Bool) (lent : List ℕ) → BuildRefuses lent (buildAnswer text flag lent)
 unfolding buildAnswer

@@ -11,18 +11,19 @@ use Rattle.chars.specs.Utf8.{isText}
 use Rattle.rule_text.specs.Items.{items, firstLine}
 use Rattle.plate.specs.Plate.{edition1}
 use Rattle.plate.specs.Written.{plateBytes}
-use Rattle.plate.specs.Build as define
-use Rattle.plate.specs.Build.{Book, blank, Verdict, verdict, refusal, delivered, answered, nonzero, buildAnswer}
-use Rattle.plate.specs.Build.Verdict.{Faulty, Fine}
+use Rattle.builder.specs.Build as define
+use Rattle.builder.specs.Build.{Book, blank, Verdict, verdict, refusal, delivered, answered, nonzero, buildAnswer, plateOf}
+use Rattle.builder.specs.Build.Verdict.{Faulty, Fine}
 use Rattle.builder.specs.Outcome.{told}
 use Rattle.builder.specs.declared.Built.{Built}
 use Rattle.builder.proofs.Only.{buffer-told}
-use Rattle.plate.proofs.Goods.{plateOf, build-good}
+use Rattle.builder.proofs.Goods.{build-good}
 use Rattle.plate.proofs.Round.{edition1-reads, edition1-exact}
 use Rattle.coder.specs.Answer as code
 use Rattle.coder.specs.Numbers.{numberOf, countOf, Tells}
 use Rattle.coder.specs.declared.Coded.{Coded}
-use Rattle.coder.proofs.Demands.{gives, encodes, longer, choice-listed, listed-choice, first-given, encode-gives, code-kept, first-kept}
+use Rattle.coder.proofs.Demands.{gives, encodes, longer, choice-listed, listed-choice, first-given, encode-gives}
+use Rattle.promises.proofs.Wider.{code-kept, first-kept}
 use Rattle.promises.specs.Demands.{Refuses, buildNumbers, codeNumbers, Demand1, Demand2, Demand3a, Demand3b, Demand3c, Demand3d}
 use Rattle.promises.proofs.Numbers.{Small, verdict-small, build-refuses, list-refuses, encode-refuses}
 

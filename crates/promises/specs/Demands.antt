@@ -11,18 +11,17 @@ use Rattle.rule_text.specs.Items.{items, firstLine}
 use Rattle.plate.specs.Plate.{Plate, edition1, goodPlate}
 use Rattle.plate.specs.Written.{plateBytes}
 use Rattle.plate.specs.Read.{readPlate}
-use Rattle.plate.specs.Build.{Book, blank, verdict, buildAnswer}
-use Rattle.plate.specs.Build.Verdict.{Fine}
+use Rattle.builder.specs.Build.{Book, blank, verdict, buildAnswer, plateOf}
+use Rattle.builder.specs.Build.Verdict.{Fine}
 use Rattle.builder.specs.Outcome.{told}
 use Rattle.builder.specs.declared.Built.{Built}
 use Rattle.plate.proofs.Packed.{Bytes}
-use Rattle.plate.proofs.Goods.{plateOf}
 use Rattle.branches.specs.Choice.{Chosen, yielded, firsts, Starts}
 use Rattle.coder.specs.Answer.{joined, listing, listAnswer, encodeAnswer}
 use Rattle.coder.specs.Numbers.{numberOf, countOf, Tells}
 use Rattle.coder.specs.declared.Coded.{Coded}
 use Rattle.coder.specs.Given.{Given, usesIn}
-use Rattle.coder.specs.Wider.{WiderItems}
+use Rattle.promises.specs.Wider.{WiderItems}
 
 -- ---- the promises of the public calls, as their contracts say them
 

@@ -1,1 +1,5 @@
+pub mod Case
+pub mod Starred
+pub mod Pinned
+pub mod Wider
 pub mod Demands

@@ -10,10 +10,11 @@ use borrow.Author.Tests.{eq-eqb, ne-eqb, le-leb, lt-leb}
 use lib.Dec.{eqb, leb}
 use lib.ListN.{length, take, drop, getD, drop-of-length-le}
 use lib.Seq.{drop-cons, drop-drop}
-use Rattle.laws.specs.Lists.{every, cut}
+use Rattle.laws.specs.Lists.{every, cut, onto, splitAt}
 use Rattle.laws.proofs.Tests.{is-between, below-between, above-between, and-left-false, and-right-false}
 use Rattle.rule_text.specs.Forms.{until, count}
-use Rattle.rule_text.specs.Fields.{bar, onto, alternatives, digit, isAlternative, fieldFault}
+use Rattle.rule_text.specs.Fields.{bar, alternatives, fieldFault}
+use Rattle.chars.specs.Digits.{digit, isAlternative}
 use Rattle.rule_text.specs.Answers.{parsed, Says, barBehind}
 use Rattle.rule_text.specs.declared.Alternatives.the-variants.{Many, TooMany, NotDigits}
 
@@ -24,7 +25,7 @@ behind (suc bars) l = alternatives l
 
 -- The first alternative ends at the first bar.
 pub split : (l : List ℕ) → alternatives l ≡ take (until bar l) l ∷ behind (count bar l) (drop (suc (until bar l)) l)
-unfolding until count alternatives
+unfolding until count splitAt
 split [] = refl
 split (x ∷ xs) = go (eqb x bar) (split xs)
   where
@@ -41,7 +42,7 @@ length-onto c [] n e = absurd (omega arith)
 length-onto c (a ∷ more) n e = e
 
 pub bars : (l : List ℕ) → length (alternatives l) ≡ suc (count bar l)
-unfolding count alternatives
+unfolding count splitAt
 bars [] = refl
 bars (x ∷ xs) = go (eqb x bar) (bars xs)
   where
@@ -117,12 +118,12 @@ odd n x (a ∷ ps) d =
 
 module _ (l : List ℕ) (i n : ℕ) where
   pub sound-end : length l ≤ i → n ≤ 6 → soundFrom n (alternatives (drop i l)) ≡ true
-  unfolding alternatives
+  unfolding splitAt
   sound-end h m = rw (drop-of-length-le l h) (closed n [] m)
 
   module _ (h : i < length l) where
     front : alternatives (drop i l) ≡ cond (eqb (getD l i 0) bar) ([] ∷ alternatives (drop (i + 1) l)) (onto (getD l i 0) (alternatives (drop (i + 1) l)))
-    unfolding alternatives
+    unfolding splitAt
     front = rw (drop-cons l i 0, add-one)
 
     told : (t : Bool) → eqb (getD l i 0) bar ≡ t → soundFrom n (alternatives (drop i l))

@@ -10,7 +10,8 @@ use lib.ListN.{length, drop}
 use Rattle.laws.specs.Lists.{every}
 use Rattle.chars.specs.Utf8.{scalar}
 use Rattle.rule_text.specs.Forms.{until, folding, endOfLine, multilineComment, orFolding, orLineEnd, orComment}
-use Rattle.rule_text.specs.Fields.{bar, alternatives, isAlternative, fieldFault}
+use Rattle.rule_text.specs.Fields.{bar, alternatives, fieldFault}
+use Rattle.chars.specs.Digits.{isAlternative}
 use Rattle.rule_text.specs.declared.Reach.{Reach}
 use Rattle.rule_text.specs.declared.Reach.the-variants as R
 use Rattle.rule_text.specs.declared.Quoted.{Quoted}

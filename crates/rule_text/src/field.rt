@@ -2,7 +2,8 @@
 ghost use mathlib.Core.Path.{_≡_};
 ghost use lib.ListN.{length};
 ghost use Rattle.laws.specs.Lists.{every};
-ghost use Rattle.rule_text.specs.Fields.{alternatives, isAlternative};
+ghost use Rattle.rule_text.specs.Fields.{alternatives};
+ghost use Rattle.chars.specs.Digits.{isAlternative};
 ghost use Rattle.rule_text.specs.Answers.{parsed, Says, barBehind, Ends};
 use super::Alternatives;
 use super::scan::count_of;

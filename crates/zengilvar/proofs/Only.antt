@@ -4,8 +4,8 @@ use mathlib.Core.Path.{_≡_}
 use mathlib.Core.Bool.{Bool}
 use mathlib.Core.List.{List}
 use Rattle.laws.proofs.Only.{only}
-use Rattle.plate.specs.Build as Build
-use Rattle.plate.specs.Build.{buildAnswer}
+use Rattle.builder.specs.Build as Build
+use Rattle.builder.specs.Build.{buildAnswer}
 use Rattle.coder.specs.Answer as Answer
 use Rattle.coder.specs.Answer.{listAnswer, encodeAnswer}
 use Rattle.zengilvar.specs.Numbers.{BuiltIs, CodedIs}

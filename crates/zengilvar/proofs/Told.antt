@@ -2,7 +2,7 @@
 use Prim.Native.Nat.{ℕ}
 use mathlib.Core.Path.{_≡_, refl, ap, _∙_}
 use mathlib.Core.List.{List}
-use Rattle.plate.specs.Build as Build
+use Rattle.builder.specs.Build as Build
 use Rattle.builder.specs.Outcome.{told}
 use Rattle.builder.specs.declared.Built.{Built}
 use Rattle.builder.specs.declared.Built.the-variants.{Plate, LongText, NotText, Faulty, ShortBuffer}

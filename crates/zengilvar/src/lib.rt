@@ -1,5 +1,5 @@
 // The library that C and Rust link: build, encode and list with 01's numbers in place of enums, which C does not have. include/zengilvar.h declares it.
-ghost use Rattle.plate.specs.Build.{buildAnswer};
+ghost use Rattle.builder.specs.Build.{buildAnswer};
 ghost use Rattle.coder.specs.Answer.{listAnswer, encodeAnswer};
 ghost use Rattle.builder.specs.Survey.{numberOf};
 ghost use Rattle.zengilvar.specs.Numbers.{Says, Counts, BuiltIs, CodedIs};

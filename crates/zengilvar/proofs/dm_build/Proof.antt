@@ -1,6 +1,6 @@
 -- `dm_build` meets its contract: the numbers are those of build's answer, whatever the buffer. Assumes nothing.
 use borrow.Author.Needs.{needs}
-use Rattle.plate.specs.Build.{buildAnswer}
+use Rattle.builder.specs.Build.{buildAnswer}
 use Rattle.zengilvar.proofs.Told.{built}
 use Rattle.zengilvar.proofs.dm_build.Statement.{statement}
 use Rattle.zengilvar.proofs.dm_build.Tie as tie

@@ -1,7 +1,7 @@
 -- `survey::enter_rule` meets its contract: the fault is the rule's, or its key goes in among the others (Turns.entered). Assumes nothing.
 use native.Mathlib.Omega.{arith}
 use borrow.Author.Needs.{needs}
-use Rattle.plate.proofs.Faults.{clean}
+use Rattle.builder.proofs.Faults.{clean}
 use Rattle.builder.proofs.Turns.{entered}
 use Rattle.builder.proofs.survey.enter_rule.Statement.{statement}
 use Rattle.builder.proofs.survey.enter_rule.Tie as tie

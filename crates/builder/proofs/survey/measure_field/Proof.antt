@@ -1,7 +1,7 @@
 -- `survey::measure_field` meets its contract: `parse_branch` says fault or count, and the bits follow from the count (Measures.field-fine). Assumes nothing.
 use native.Mathlib.Omega.{arith}
 use borrow.Author.Needs.{needs}
-use Rattle.plate.proofs.Faults.{field-digits}
+use Rattle.builder.proofs.Faults.{field-digits}
 use Rattle.builder.proofs.Measures.{field-within, field-few, field-fine}
 use Rattle.builder.proofs.survey.measure_field.Statement.{statement}
 use Rattle.builder.proofs.survey.measure_field.Tie as tie

@@ -5,7 +5,7 @@ use native.Mathlib.Omega.{arith}
 use borrow.Author.Needs.{needs}
 use lib.ListN.{length}
 use Rattle.rule_text.specs.Items.{items, firstLine}
-use Rattle.plate.specs.Build.{blank, verdict}
+use Rattle.builder.specs.Build.{blank, verdict}
 use Rattle.builder.specs.Survey.{Kept, onward}
 use Rattle.builder.proofs.Turns.{survey-start, survey-end}
 use Rattle.builder.proofs.survey.survey.Statement.{statement}

@@ -7,7 +7,8 @@ use native.Mathlib.Omega.{arith}
 use borrow.Author.Needs.{needs}
 use lib.ListN.{length, take, drop}
 use Rattle.laws.specs.Lists.{cat}
-use Rattle.rule_text.specs.Fields.{alternatives, isAlternative}
+use Rattle.rule_text.specs.Fields.{alternatives}
+use Rattle.chars.specs.Digits.{isAlternative}
 use Rattle.rule_text.proofs.Splits.{behind}
 use Rattle.plate.specs.Written.{alternativeBits}
 use Rattle.builder.specs.Pen.{Wrote}

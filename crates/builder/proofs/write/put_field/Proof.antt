@@ -15,7 +15,7 @@ use Rattle.rule_text.specs.declared.Alternatives.the-variants.{Many, TooMany, N
 use Rattle.rule_text.proofs.Alternatives.{enum}
 use Rattle.plate.specs.Bits.{bitsOf}
 use Rattle.plate.specs.Written.{alternativeBits}
-use Rattle.plate.proofs.Faults.{field-digits}
+use Rattle.builder.proofs.Faults.{field-digits}
 use Rattle.builder.proofs.Inks.{ready-first, ready-then, ready-as, wrote-then, wrote-as}
 use Rattle.builder.proofs.write.put_field.Statement.{statement}
 use Rattle.builder.proofs.write.put_field.Tie as tie

@@ -1,7 +1,7 @@
 -- `write::put_parts` meets its contract: five parts, one behind the other (Scripts.wrote-rule). Assumes nothing.
 use native.Mathlib.Omega.{arith}
 use borrow.Author.Needs.{needs}
-use Rattle.plate.proofs.Faults.{clean}
+use Rattle.builder.proofs.Faults.{clean}
 use Rattle.builder.proofs.Bars.{bytes-fit}
 use Rattle.builder.proofs.Scripts.{ready-count, ready-bytes, ready-start, ready-vowel, ready-other, wrote-rule}
 use Rattle.builder.proofs.write.put_parts.Statement.{statement}

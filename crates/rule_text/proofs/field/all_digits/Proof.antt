@@ -5,7 +5,8 @@ use Prim.Native.Nat.{_-_, _<_, _≤_}
 use native.Mathlib.Omega.{arith}
 use lib.ListN.{length, drop}
 use Rattle.laws.specs.Lists.{every}
-use Rattle.rule_text.specs.Fields.{alternatives, isAlternative}
+use Rattle.rule_text.specs.Fields.{alternatives}
+use Rattle.chars.specs.Digits.{isAlternative}
 use Rattle.rule_text.proofs.Splits.{soundFrom, sound-start, sound-end, sound-bar, sound-low, sound-high, sound-full, sound-more}
 use Rattle.rule_text.proofs.field.all_digits.Statement.{statement}
 use Rattle.rule_text.proofs.field.all_digits.Tie as tie

@@ -8,8 +8,9 @@ use borrow.Author.Tests.{eqb-false, ltb-false, leb-false}
 use lib.Dec.{ltb, leb, eqb, lit<}
 use lib.ListN.{length}
 use Rattle.laws.specs.Lists.{every}
-use Rattle.rule_text.specs.Fields.{alternatives, isAlternative, fieldFault}
-use Rattle.plate.specs.Build.{when, firstFault, ruleFault}
+use Rattle.rule_text.specs.Fields.{alternatives, fieldFault}
+use Rattle.chars.specs.Digits.{isAlternative}
+use Rattle.builder.specs.Build.{when, firstFault, ruleFault}
 
 -- A field without fault has at most 8 alternatives, and each is one.
 pub field-fine : (f : List ℕ) → fieldFault f ≡ 0 → (leb (length (alternatives f)) 8 ≡ true) × (every isAlternative (alternatives f) ≡ true)

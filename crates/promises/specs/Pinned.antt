@@ -6,22 +6,20 @@ use mathlib.Core.Bool.{true, false}
 use mathlib.Core.List.{List, [], _∷_, _++_}
 use lib.Dec.{T}
 use lib.ListN.{replicate}
-use Rattle.laws.specs.Lists.{every}
-use Rattle.chars.specs.Utf8.{textFrom, charsFrom}
+use Rattle.laws.specs.Lists.{every, splitAt}
+use Rattle.chars.specs.Utf8.{textFrom, charsFrom, bytesOf}
 use Rattle.chars.specs.Letters.{white, capital, evenCapital, oddCapital, lowerOf, vowel}
 use Rattle.chars.specs.Quoted.{bytes, lines}
 use Rattle.rule_text.specs.Forms.{entry, quadruplet, folding, multilineComment, endOfLine, ending, comment, blanks, until, count, later, pairAt, lineAt, part, plain, escaped, partAt, letterAt, closing}
 use Rattle.rule_text.specs.Items.{itemsFrom}
-use Rattle.rule_text.specs.Fields.{alternatives}
 use Rattle.plate.specs.Bits.{bit, numberAt}
-use Rattle.plate.specs.Build.{buildAnswer, verdict}
+use Rattle.builder.specs.Build.{buildAnswer, verdict}
 use Rattle.branches.specs.Branches.{endsWith, extend, met, step, run, over}
 use Rattle.plate.specs.Read.{foldBy}
 use Rattle.coder.specs.Walk.{walk}
 use Rattle.coder.specs.Answer.{joined, room, listAnswer, encodeAnswer}
-use Rattle.coder.specs.Case.{Case, Codes, BadName, GoodText, BadText, holds}
-use Rattle.chars.specs.Utf8.{bytesOf}
-use Rattle.coder.specs.Starred.{textS, under, underS}
+use Rattle.promises.specs.Case.{Case, Codes, BadName, GoodText, BadText, holds}
+use Rattle.promises.specs.Starred.{textS, under, underS}
 
 -- n foldings, of the characters from c on
 abbrev foldings : ℕ → ℕ → List ℕ
@@ -140,5 +138,5 @@ cases =
     ∷ []
 
 pub pinned : T (every holds cases)
-unfolding textFrom charsFrom white capital evenCapital oddCapital lowerOf vowel entry quadruplet folding multilineComment endOfLine ending comment blanks until count later pairAt lineAt part plain escaped partAt letterAt closing itemsFrom alternatives bit numberAt buildAnswer verdict endsWith extend met step run over foldBy walk joined room listAnswer encodeAnswer
+unfolding textFrom charsFrom white capital evenCapital oddCapital lowerOf vowel entry quadruplet folding multilineComment endOfLine ending comment blanks until count later pairAt lineAt part plain escaped partAt letterAt closing itemsFrom splitAt bit numberAt buildAnswer verdict endsWith extend met step run over foldBy walk joined room listAnswer encodeAnswer
 pinned = tt

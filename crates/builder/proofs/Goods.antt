@@ -10,37 +10,22 @@ use borrow.Author.Tests.{ltb-true, ltb-false, leb-true, lt-ltb, le-leb}
 use lib.Dec.{ltb, leb, eqb, lit<}
 use lib.ListN.{length, take, drop}
 use lib.Seq.{take-append-seam}
-use Rattle.laws.specs.Lists.{every}
+use Rattle.laws.specs.Lists.{every, onto, splitAt}
 use Rattle.laws.proofs.Tests.{and-true, both-true, by-test, is-between}
 use Rattle.chars.specs.Utf8.{isText}
 use Rattle.rule_text.specs.Items.{Item, items, firstLine, lineBehind}
 use Rattle.rule_text.specs.Items.Item.{RuleItem, FoldingItem, LineEndItem, CommentItem, UnknownItem}
-use Rattle.rule_text.specs.Fields.{bar, onto, alternatives, fieldFault}
+use Rattle.rule_text.specs.Fields.{bar, alternatives, fieldFault}
 use Rattle.rule_text.proofs.Clean.{Clean, AllClean, items-clean}
-use Rattle.plate.specs.Plate.{
-  Folding,
-  Rule,
-  Plate,
-  edition1,
-  mostFoldings,
-  goodField,
-  nonzeroByte,
-  goodRule,
-  goodFolding,
-  rising,
-  ordered,
-  goodFoldings,
-  goodRules,
-  goodPlate,
-}
+use Rattle.plate.specs.Plate.{Folding, Rule, edition1, mostFoldings, goodField, nonzeroByte, goodRule, goodFolding, rising, ordered, goodFoldings, goodRules, goodPlate}
 use Rattle.plate.specs.Written.{plateBytes}
 use Rattle.plate.specs.Read.{acceptedIn, readPlate}
-use Rattle.plate.specs.Build.{Book, blank, putRule, putFolding, ruleOf, foldingOf, enter, ruleFault, fault, Verdict, unless, verdict, Built, refusal, answered, nonzero, buildAnswer}
-use Rattle.plate.specs.Build.Verdict.{Faulty, Fine}
+use Rattle.builder.specs.Build.{Book, blank, plateOf, putRule, putFolding, ruleOf, foldingOf, enter, ruleFault, fault, Verdict, unless, verdict, Built, refusal, answered, nonzero, buildAnswer}
+use Rattle.builder.specs.Build.Verdict.{Faulty, Fine}
 use Rattle.plate.proofs.Packed.{Bytes}
-use Rattle.plate.proofs.Faults.{field-fine, not-when, clean}
+use Rattle.builder.proofs.Faults.{field-fine, not-when, clean}
 use Rattle.plate.proofs.Round.{edition1-reads, edition1-accepted}
-use Rattle.plate.proofs.Sorted.{put-ordered, put-every, put-length, put-rising, put-each}
+use Rattle.builder.proofs.Sorted.{put-ordered, put-every, put-length, put-rising, put-each}
 
 -- ---- a field without fault is good
 
@@ -49,7 +34,7 @@ onto-one c [] = omega arith
 onto-one c (a ∷ more) = omega arith
 
 one-alternative : (f : List ℕ) → 1 ≤ length (alternatives f)
-unfolding alternatives
+unfolding splitAt
 one-alternative [] = omega arith
 one-alternative (c ∷ cs) =
     by-test (λ (l : List (List ℕ)). 1 ≤ length l) (eqb c bar) ([] ∷ alternatives cs) (onto c (alternatives cs)) (λ e. omega arith) (λ e. onto-one c (alternatives cs))
@@ -127,10 +112,6 @@ text-fair text bytes h =
     verdict-fair firstLine blank (items text) (items-clean nonzeroByte refl text (a .0) (bytes-nonzero text bytes (a .1))) (refl, refl)
 
 -- ---- the plate that a text says
-
--- The plate of a book, with a folding flag.
-abbrev pub plateOf : Bool → Book → Plate
-plateOf flag b = record { flag = flag; foldings = b .foldings; rules = b .rules }
 
 -- A text without fault says a good plate.
 pub build-good : (text : List ℕ) → Bytes text → isText text && every nonzero text ≡ true → (b : Book) → verdict firstLine blank (items text) ≡ Fine b

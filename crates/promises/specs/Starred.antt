@@ -4,20 +4,19 @@ use Prim.Native.String.{String}
 use mathlib.Core.Bool.{true}
 use mathlib.Core.List.{List, [], _∷_, _++_}
 use lib.Dec.{T}
-use Rattle.laws.specs.Lists.{every}
+use Rattle.laws.specs.Lists.{every, splitAt}
 use Rattle.chars.specs.Utf8.{textFrom, charsFrom}
 use Rattle.chars.specs.Letters.{white, capital, evenCapital, oddCapital, lowerOf, vowel}
 use Rattle.chars.specs.Quoted.{bytes, lines}
 use Rattle.rule_text.specs.Forms.{entry, quadruplet, folding, multilineComment, endOfLine, ending, comment, blanks, until, count, later, pairAt, lineAt, part, plain, escaped, partAt, letterAt, closing}
 use Rattle.rule_text.specs.Items.{itemsFrom}
-use Rattle.rule_text.specs.Fields.{alternatives}
 use Rattle.plate.specs.Bits.{bit, numberAt}
-use Rattle.plate.specs.Build.{buildAnswer, verdict}
+use Rattle.builder.specs.Build.{buildAnswer, verdict}
 use Rattle.branches.specs.Branches.{endsWith, extend, met, step, run, over}
 use Rattle.plate.specs.Read.{foldBy}
 use Rattle.coder.specs.Walk.{walk}
 use Rattle.coder.specs.Answer.{joined, room, listAnswer, encodeAnswer}
-use Rattle.coder.specs.Case.{Case, Codes, holds}
+use Rattle.promises.specs.Case.{Case, Codes, holds}
 
 -- 01: "Small text S, built with the flag on: `à=a`; rules `a` and `o` with 0, empty, empty; `ie` 1, empty, empty; `ch` and `c` with `4|5` in all three
 -- fields; `r` 9, `s` 4, `w` 7, `m` 6, `n` 6 in all three; `h` 5, 5, empty."
@@ -64,5 +63,5 @@ cases =
     ∷ []
 
 pub starred : T (every holds cases)
-unfolding textFrom charsFrom white capital evenCapital oddCapital lowerOf vowel entry quadruplet folding multilineComment endOfLine ending comment blanks until count later pairAt lineAt part plain escaped partAt letterAt closing itemsFrom alternatives bit numberAt buildAnswer verdict endsWith extend met step run over foldBy walk joined room listAnswer encodeAnswer
+unfolding textFrom charsFrom white capital evenCapital oddCapital lowerOf vowel entry quadruplet folding multilineComment endOfLine ending comment blanks until count later pairAt lineAt part plain escaped partAt letterAt closing itemsFrom splitAt bit numberAt buildAnswer verdict endsWith extend met step run over foldBy walk joined room listAnswer encodeAnswer
 starred = tt

@@ -10,8 +10,8 @@ use lib.Dec.{ltb, leb, eqb}
 use lib.ListN.{length}
 use Rattle.laws.specs.Lists.{every}
 use Rattle.laws.proofs.Tests.{and-true, both-true, or-left, or-right, neither}
 use Rattle.plate.specs.Plate.{Folding, Rule, mayPrecede, ordered, rising, firstCode}
-use Rattle.plate.specs.Build.{putRule, putFolding}
+use Rattle.builder.specs.Build.{putRule, putFolding}
 
 -- ---- rules
 

@@ -9,8 +9,8 @@ use Rattle.laws.specs.Lists.{same}
 use Rattle.rule_text.specs.Fields.{alternatives}
 use Rattle.plate.specs.Plate.{Plate}
 use Rattle.plate.specs.Read.{readPlate}
-use Rattle.plate.specs.Build.{buildAnswer}
+use Rattle.builder.specs.Build.{buildAnswer}
 use Rattle.coder.specs.Answer.{Coded, listAnswer, encodeAnswer}
 
 -- Texts, names and codes are bytes; a flag is the folding flag; `lent` is how many bytes are lent to the call.
 pub data Case : Type 0 where
@@ -28,8 +28,8 @@ abbrev pub lend : ℕ → List ℕ
 lend n = replicate n 7
 
 -- the plate that a text builds
-abbrev pub plateOf : List ℕ → Bool → List ℕ
-plateOf text flag = let b = buildAnswer text flag (lend 700) in take (b .length) (b .buffer)
+abbrev pub builtOf : List ℕ → Bool → List ℕ
+builtOf text flag = let b = buildAnswer text flag (lend 700) in take (b .length) (b .buffer)
 
 -- number, count and the whole buffer
 abbrev pub codedIs : Coded → ℕ → ℕ → List ℕ → Bool
@@ -45,10 +45,10 @@ holding (some p) rules foldings = eqb (length (p .rules)) rules && eqb (length (
 
 abbrev pub holds : Case → Bool
 holds (Codes text flag name lent codes) =
-    let plate = plateOf text flag in
+    let plate = builtOf text flag in
     gives (listAnswer plate name (lend lent)) lent codes && gives (encodeAnswer plate name (lend 8)) 8 (take 6 codes)
-holds (BadName text flag name lent number) = codedIs (listAnswer (plateOf text flag) name (lend lent)) number 0 (lend lent)
-holds (GoodText text rules foldings) = holding (readPlate (plateOf text true)) rules foldings
+holds (BadName text flag name lent number) = codedIs (listAnswer (builtOf text flag) name (lend lent)) number 0 (lend lent)
+holds (GoodText text rules foldings) = holding (readPlate (builtOf text true)) rules foldings
 holds (BadText text number line) =
     let b = buildAnswer text true (lend 700) in
     eqb (b .number) number && (eqb (b .line) line && (eqb (b .length) 0 && same (b .buffer) (lend 700)))

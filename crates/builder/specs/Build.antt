@@ -10,8 +10,8 @@ use Rattle.chars.specs.Utf8.{isText}
 use Rattle.rule_text.specs.Items.{Item, items, firstLine, lineBehind}
 use Rattle.rule_text.specs.Items.Item.{RuleItem, FoldingItem, LineEndItem, CommentItem, UnknownItem}
 use Rattle.rule_text.specs.Fields.{alternatives, fieldFault}
-use Rattle.plate.specs.Plate.{Folding, Rule, edition1, mostFoldings, mayPrecede}
+use Rattle.plate.specs.Plate.{Folding, Rule, Plate, edition1, mostFoldings, mayPrecede}
 use Rattle.plate.specs.Written.{plateBytes}
 
 -- ---- the book: what the items so far have said, in the plate's order
 
@@ -101,9 +101,13 @@ abbrev pub delivered : List ℕ → List ℕ → Built
 delivered plate lent =
     cond (ltb (length lent) (length plate)) (refusal 9 0 lent) (record { number = 0; line = 0; length = length plate; buffer = plate ++ drop (length plate) lent })
 
+-- the plate of a book, with a folding flag
+abbrev pub plateOf : Bool → Book → Plate
+plateOf flag b = record { flag = flag; foldings = b .foldings; rules = b .rules }
+
 abbrev pub answered : Bool → List ℕ → Verdict → Built
 answered flag lent (Faulty number line) = refusal number line lent
-answered flag lent (Fine b) = delivered (plateBytes edition1 (record { flag = flag; foldings = b .foldings; rules = b .rules })) lent
+answered flag lent (Fine b) = delivered (plateBytes edition1 (plateOf flag b)) lent
 
 abbrev pub nonzero : ℕ → Bool
 nonzero b = ltb 0 b
