@@ -1,4 +1,5 @@
-// A line and its fields, one space between two. Reading never fails: a field that is no number reads as one that no case has.
+// A line and its fields, which stand in front of its first semicolon, one space between two. Reading never fails: a field that is no number reads as one that no
+// case has.
 ghost use Prim.Native.Nat.{_≤_, _<_};
 ghost use lib.ListN.{length};
 
@@ -41,12 +42,13 @@ pub fn next_line(s: &[u8], at: usize) -> usize
     end + 1
 }
 
-// Where a field begins, the first being field 0, or the end if the line has no such field.
+// Where a field begins, the first being field 0; the semicolon's place, or the line's end, if it has no such field.
 pub fn field_start(line: &[u8], field: usize) -> usize
     ensures { λ r. ⌜ r ≤ length (now (line .entry)) ⌝ }
 {
+    let end = end_of(line, 0, b';');
     let mut left = field;
-    for i in 0..line.len() {
+    for i in 0..end {
         if left == 0 {
             return i;
         }
@@ -54,7 +56,20 @@ pub fn field_start(line: &[u8], field: usize) -> usize
             left -= 1;
         }
     }
-    line.len()
+    end
+}
+
+// Where the field that begins at a place ends.
+pub fn field_end(line: &[u8], start: usize) -> usize
+    requires { ⌜ start ≤ length (now line) ⌝ }
+    ensures { λ r. ⌜ (start ≤ r) × (r ≤ length (now (line .entry))) ⌝ }
+{
+    let space = end_of(line, start, b' ');
+    let semicolon = end_of(line, start, b';');
+    if space < semicolon {
+        return space;
+    }
+    semicolon
 }
 
 // The value of a hex digit, 16 for any other byte.
@@ -102,7 +117,7 @@ pub fn number_at(line: &[u8], field: usize) -> usize
     ensures { λ r. ⌜ r ≤ 100000 ⌝ }
 {
     let start = field_start(line, field);
-    let end = end_of(line, start, b' ');
+    let end = field_end(line, start);
     if start == end {
         return NO_NUMBER;
     }

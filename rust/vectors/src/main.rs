@@ -1,6 +1,6 @@
 //! Writes a fixed list of the Rust's answers, for a program that replays it without Rust at hand.
 //!
-//! `vectors FOLDER` writes vectors-1.txt, vectors-2.txt and so on, each at most 65,536 bytes, so that one buffer of that
+//! `vectors FOLDER` writes vectors-1.txt, vectors-2.txt and so on, each under 65,536 bytes, so that one buffer of that
 //! size takes a file. The form is said in the first lines of each file. The same list is written every time.
 //!
 //! Codes and counts are the Rust's. A list into a short buffer is expected to be refused (12) only where the Rust's own
@@ -16,14 +16,16 @@ use std::collections::BTreeSet;
 use std::fs;
 use std::path::Path;
 
-const FILE: usize = 65_536;
+/// A reader with a buffer of 65,536 bytes cannot tell a file that fills it from a longer one.
+const FILE: usize = 65_535;
 
 const HEAD: &str = "\
 # Answers of rphonetic 4.0.0, from its own daitch_mokotoff.rs, unchanged. Written by rust/vectors; do not edit.
-# Plates are written in document 01's form. A line is a letter and fields, one space between two; - is no bytes.
-# p PLATE                          the plate of the lines below, in hex
-# e NAME LENT NUMBER COUNT CODES   encode: name in hex, bytes lent, number, count of codes, bytes written
-# l NAME LENT NUMBER COUNT CODES   list, the same
+# Plates are written in document 01's form. A line is a letter, fields, one space between two, a semicolon, a space, bytes.
+# p TITLE; PLATE                    the plate of the lines below
+# e LENT NUMBER COUNT CODES; NAME   encode: bytes lent, number, count of codes, bytes written (- for none), name
+# l LENT NUMBER COUNT CODES; NAME   list, the same
+# A backslash and two hex digits stand for one byte, every other byte for itself. A line that ends with the semicolon has no bytes.
 ";
 
 struct Files {
@@ -35,8 +37,8 @@ struct Files {
 
 impl Files {
     /// The lines below are under this plate.
-    fn plate(&mut self, bytes: &[u8]) {
-        self.plate = format!("p {}\n", hex(bytes));
+    fn plate(&mut self, title: &str, bytes: &[u8]) {
+        self.plate = format!("p {title};{}\n", tail(&hex(bytes)));
         let line = self.plate.clone();
         self.line(&line, false);
     }
@@ -48,7 +50,7 @@ impl Files {
             false => (12, 0, "-".to_string()),
         };
         self.records += 1;
-        self.line(&format!("{letter} {} {lent} {number} {count} {written}\n", hex(name.as_bytes())), true);
+        self.line(&format!("{letter} {lent} {number} {count} {written};{}\n", tail(&plain(name))), true);
     }
 
     /// Adds a line. A file that is full ends, and the next one begins with the head and the plate.
@@ -64,9 +66,20 @@ impl Files {
 }
 
 fn hex(bytes: &[u8]) -> String {
+    bytes.iter().map(|byte| format!("\\{byte:02X}")).collect()
+}
+
+/// Letters, digits and ASCII's marks as they are; a backslash, blanks and what cannot be seen by their bytes.
+fn plain(name: &str) -> String {
+    let seen = |c: char| c != '\\' && (c.is_ascii_graphic() || c.is_alphanumeric());
+    name.chars().map(|c| if seen(c) { c.to_string() } else { hex(c.to_string().as_bytes()) }).collect()
+}
+
+/// What stands behind a line's semicolon.
+fn tail(bytes: &str) -> String {
     match bytes {
-        [] => "-".to_string(),
-        _ => bytes.iter().map(|byte| format!("{byte:02x}")).collect(),
+        "" => String::new(),
+        _ => format!(" {bytes}"),
     }
 }
 
@@ -76,10 +89,10 @@ struct Rules {
     content: judge::Content,
 }
 
-fn rules(files: &mut Files, text: &str, folding: bool) -> Option<Rules> {
+fn rules(files: &mut Files, title: &str, text: &str, folding: bool) -> Option<Rules> {
     let (plate, content) = answers::text_answer(text.as_bytes(), folding).ok()?;
     let coder = oracle::build(text, folding).ok()?;
-    files.plate(&plate);
+    files.plate(title, &plate);
     Some(Rules { coder, content })
 }
 
@@ -132,7 +145,8 @@ fn all(files: &mut Files) {
         "\u{1C}h",
     ];
     for folding in [true, false] {
-        let small = rules(files, SMALL, folding).expect("the paper's small text is built");
+        let title = if folding { "S, flag on" } else { "S, flag off" };
+        let small = rules(files, title, SMALL, folding).expect("the paper's small text is built");
         for example in examples {
             name(files, &small, example, true);
         }
@@ -146,13 +160,13 @@ fn all(files: &mut Files) {
         }
     }
     let text = format!("{SMALL}ı=i\nſ=s\nÿ=a\né=e\n\"e\" \"3\" \"2\" \"1\"\n\"i\" \"2\" \"1\" \"3\"\n");
-    let letters = rules(files, &text, true).expect("a good text");
+    let letters = rules(files, "S and foldings and rules of other letters", &text, true).expect("a good text");
     for c in (0..0x180).filter_map(char::from_u32) {
         let listed = letters.coder.inner_soundex(&format!("r{c}a"), true);
         files.record(Call::List, &format!("r{c}a"), 447, &listed);
     }
     let mut random = Random::new(1);
-    let standard = rules(files, STANDARD, true).expect("the standard rules are built");
+    let standard = rules(files, "the standard rules", STANDARD, true).expect("the standard rules are built");
     let mut seen = BTreeSet::new();
     while seen.len() < 300 {
         let surname = made::surname(&mut random);
@@ -160,11 +174,11 @@ fn all(files: &mut Files) {
             name(files, &standard, &surname, false);
         }
     }
-    for _ in 0..90 {
+    for number in 0..90 {
         let taste = made::taste(&mut random, false);
         let count = random.within(1, 8);
         let text = made::text(&mut random, &taste, count);
-        let Some(made) = rules(files, &text, !random.once_in(4)) else {
+        let Some(made) = rules(files, &format!("made rules {number}"), &text, !random.once_in(4)) else {
             continue;
         };
         for turn in 0..5 {

@@ -8,10 +8,10 @@ use Rattle.names_run.proofs.run_lines.Statement.{statement}
 use Rattle.names_run.proofs.run_lines.Tie as tie
 
 abbrev Inv-loop : tie.InvT-loop
-Inv-loop text plate₀ n₀ at₀ plate n at = (at ≤ length text) × (length plate ≡ length plate₀)
+Inv-loop text plate₀ tally₀ at₀ plate tally at = (at ≤ length text) × (length plate ≡ length plate₀)
 
 abbrev μ-loop : tie.MeasureT-loop
-μ-loop text plate₀ n₀ at₀ plate n at = length text - at
+μ-loop text plate₀ tally₀ at₀ plate tally at = length text - at
 
 loop-holds : tie.Need-loop-holds Inv-loop μ-loop
 loop-holds c = omega arith

@@ -1,15 +1,17 @@
--- `field_start` meets its contract: the place in hand lies within the line. Assumes nothing.
+-- `field_start` meets its contract: the place in hand lies in front of the semicolon. Assumes nothing.
 use native.Mathlib.Omega.{arith}
-use lib.ListN.{length}
 use Prim.Native.Nat.{_-_, _≤_}
 use Rattle.trial.proofs.lines.field_start.Statement.{statement}
 use Rattle.trial.proofs.lines.field_start.Tie as tie
 
 abbrev Inv-loop : tie.InvT-loop
-Inv-loop line field left₀ i₀ i-end left i = i ≤ length line
+Inv-loop line field end left₀ i₀ left i = i ≤ end
 
 abbrev μ-loop : tie.MeasureT-loop
-μ-loop line field left₀ i₀ i-end left i = length line - i
+μ-loop line field end left₀ i₀ left i = end - i
+
+end-of-requires : tie.Need-end-of-requires Inv-loop μ-loop
+end-of-requires c κs = omega arith
 
 loop-holds : tie.Need-loop-holds Inv-loop μ-loop
 loop-holds c = omega arith
@@ -41,6 +43,7 @@ field-start-spec =
     (tie.spec
     Inv-loop
     μ-loop
+    end-of-requires
     loop-holds
     returns
     shared-slice-read-if2

@@ -14,8 +14,8 @@ abbrev μ-loop : tie.MeasureT-loop
 field-start-requires : tie.Need-field-start-requires Inv-loop μ-loop
 field-start-requires c κs = search needs
 
-end-of-requires : tie.Need-end-of-requires Inv-loop μ-loop
-end-of-requires c κs = omega arith
+field-end-requires : tie.Need-field-end-requires Inv-loop μ-loop
+field-end-requires c κs = omega arith
 
 returns : tie.Need-returns Inv-loop μ-loop
 returns c = omega arith
@@ -48,7 +48,7 @@ number-at-spec =
     Inv-loop
     μ-loop
     field-start-requires
-    end-of-requires
+    field-end-requires
     returns
     loop-holds
     shared-slice-read-appended

@@ -1,22 +1,22 @@
--- `begins` ends: one byte a turn. Assumes nothing.
+-- `same` ends: one byte a turn. Assumes nothing.
 use borrow.Author.Needs.{needs}
 use native.Mathlib.Omega.{arith}
 use lib.ListN.{length}
 use Prim.Native.Nat.{_-_, _≤_}
-use Rattle.vectors_run.proofs.replay.begins.Statement.{statement}
-use Rattle.vectors_run.proofs.replay.begins.Tie as tie
+use Rattle.names_run.proofs.answer.same.Statement.{statement}
+use Rattle.names_run.proofs.answer.same.Tie as tie
 
 abbrev Inv-loop : tie.InvT-loop
-Inv-loop s front i₀ i-end i = i ≤ length front
+Inv-loop s t i₀ i-end i = i ≤ length s
 
 abbrev μ-loop : tie.MeasureT-loop
-μ-loop s front i₀ i-end i = length front - i
-
-loop-holds : tie.Need-loop-holds Inv-loop μ-loop
-loop-holds c = omega arith
+μ-loop s t i₀ i-end i = length s - i
 
 returns : tie.Need-returns Inv-loop μ-loop
 returns c = search needs
+
+loop-holds : tie.Need-loop-holds Inv-loop μ-loop
+loop-holds c = omega arith
 
 shared-slice-read-if2 : tie.Need-shared-slice-read-if2 Inv-loop μ-loop
 shared-slice-read-if2 c = omega arith
@@ -39,14 +39,14 @@ loop-again c = omega arith
 returns-3 : tie.Need-returns-3 Inv-loop μ-loop
 returns-3 c = search needs
 
-pub begins-spec : {M : Type 1} → statement M
-begins-spec =
+pub same-spec : {M : Type 1} → statement M
+same-spec =
     tie.close
     (tie.spec
     Inv-loop
     μ-loop
-    loop-holds
     returns
+    loop-holds
     shared-slice-read-if2
     shared-slice-read-if2-2
     returns-2
