@@ -23,7 +23,9 @@ module _ (s : List ℕ) where
   pub bits : (at n r r′ : ℕ) → (r ≡ numberAt s at n) × (r < 2 ^ n) → (r′ ≡ numberAt s at n) × (r′ < 2 ^ n) → r ≡ r′
   bits at n r r′ e f = only (e .0) (f .0)
 
-  -- `wide_front` alike
+  pub wide-front : (at n : ℕ) (r r′ : Front) → r ≡ frontOf (charOf (bytesAt s n at)) → r′ ≡ frontOf (charOf (bytesAt s n at)) → r ≡ r′
+  wide-front at n r r′ e f = only e f
+
   pub front : (at n : ℕ) (r r′ : Front) → (r ≡ frontOf (charOf (bytesAt s n at))) × frontTo r n → (r′ ≡ frontOf (charOf (bytesAt s n at))) × frontTo r′ n → r ≡ r′
   front at n r r′ e f = only (e .0) (f .0)
 
