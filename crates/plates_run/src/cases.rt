@@ -3,6 +3,7 @@ ghost use Prim.Native.Nat.{_≤_};
 ghost use mathlib.Core.Path.{_≡_};
 ghost use lib.ListN.{length};
 use super::ask;
+use super::items;
 use super::judge;
 use std::num::wrapping_add_u8;
 use trial::case::bytes_of;
@@ -85,6 +86,8 @@ fn lay_times(line: &[u8], text: &mut [u8], at: usize) -> usize
 
 fn run_letter(letter: u8, title: &[u8], bytes: &[u8]) {
     match letter {
+        b'i' => items::show(bytes),
+        b'f' => items::show_field(bytes),
         b'p' | b'o' | b'r' => ask::show_plate(letter, title, bytes),
         b't' => ask::show(title, bytes),
         _ => judge::show(title, bytes),
@@ -122,7 +125,7 @@ fn run_line(line: &[u8], text: &mut [u8], at: usize) -> usize
         b'm' | b'k' => {
             return lay_times(line, text, at);
         }
-        b'p' | b'o' | b'r' | b't' | b'j' | b'b' => run_case(line, text, at),
+        b'i' | b'f' | b'p' | b'o' | b'r' | b't' | b'j' | b'b' => run_case(line, text, at),
         _ => fault(line),
     }
     at

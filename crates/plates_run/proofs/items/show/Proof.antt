@@ -4,8 +4,8 @@ use native.Mathlib.Omega.{arith}
 use lib.ListN.{length}
 use Prim.Native.Nat.{_-_, _≤_}
 use Rattle.laws.proofs.Parts.{lent-length}
-use Rattle.texts_run.proofs.show.Statement.{statement}
-use Rattle.texts_run.proofs.show.Tie as tie
+use Rattle.plates_run.proofs.items.show.Statement.{statement}
+use Rattle.plates_run.proofs.items.show.Tie as tie
 
 abbrev Inv-loop : tie.InvT-loop
 Inv-loop text at₀ at = at ≤ length text

@@ -1,6 +1,5 @@
-// Runs `item` over rule texts and `parse_branch` over fields, and writes what they answer: 01's forms, and the texts where two forms fit or one nearly does.
-// For each text its items: where each begins, how many bytes it takes, and what it is; the places of a rule's four parts are counted from the item's first byte.
-// The cases stand in data/texts.txt. The file stdout was worked out by hand from 01, "Rule text, item by item", by counting bytes, before the program was run.
+// The items of a text and the alternatives of a field. Of an item it is written where it begins, how many bytes it takes, and what it is; the places of a rule's
+// four parts are counted from the item's first byte.
 ghost use Prim.Native.Nat.{_≤_};
 ghost use lib.ListN.{length};
 use libc::STDOUT_FILENO;
@@ -8,11 +7,6 @@ use rule_text::Alternatives;
 use rule_text::Entry;
 use rule_text::field::parse_branch;
 use rule_text::item::item;
-use trial::case::bytes_of;
-use trial::lines::end_of;
-use trial::lines::letter_of;
-use trial::lines::next_line;
-use trial::say::fault;
 use trial::say::labelled;
 use trial::say::newline;
 use trial::say::number;
@@ -122,7 +116,7 @@ fn show_item(rest: &[u8], at: usize) -> usize
     }
 }
 
-fn show(text: &[u8]) {
+pub(crate) fn show(text: &[u8]) {
     text_line(text);
     let mut at: usize = 0;
     while at < text.len() {
@@ -148,45 +142,8 @@ fn show_alternatives(found: Alternatives) {
     newline();
 }
 
-fn show_field(field: &[u8]) {
+pub(crate) fn show_field(field: &[u8]) {
     word(b"field ");
     text_line(field);
     show_alternatives(parse_branch(field));
-}
-
-// The case of a line, on its bytes.
-fn run(line: &[u8], bytes: &[u8]) {
-    match letter_of(line) {
-        b't' => show(bytes),
-        b'f' => show_field(bytes),
-        _ => fault(line),
-    }
-}
-
-fn run_line(line: &[u8], bytes: &mut [u8]) {
-    if letter_of(line) == b'#' {
-        return;
-    }
-    let n = bytes_of(line, bytes);
-    if bytes.len() < n {
-        fault(line);
-        return;
-    }
-    run(line, &bytes[0..n]);
-}
-
-fn run_lines(text: &[u8], bytes: &mut [u8]) {
-    let mut at: usize = 0;
-    while at < text.len() {
-        let end = end_of(text, at, b'\n');
-        run_line(&text[at..end], bytes);
-        at = next_line(text, at);
-    }
-}
-
-fn main() {
-    let mut text = io::large_buffer();
-    let n = trial::file::read(b"texts.txt", &mut text);
-    let mut bytes = io::buffer();
-    run_lines(&text[0..n], &mut bytes);
 }

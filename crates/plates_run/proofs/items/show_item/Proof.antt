@@ -3,8 +3,8 @@ use borrow.Author.Needs.{needs}
 use lib.ListN.{length}
 use Rattle.laws.proofs.Parts.{known}
 use Rattle.rule_text.specs.Answers.{Lies}
-use Rattle.texts_run.proofs.show_item.Statement.{statement}
-use Rattle.texts_run.proofs.show_item.Tie as tie
+use Rattle.plates_run.proofs.items.show_item.Statement.{statement}
+use Rattle.plates_run.proofs.items.show_item.Tie as tie
 
 item-requires : tie.Need-item-requires
 item-requires c κs = search needs

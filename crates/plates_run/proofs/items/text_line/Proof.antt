@@ -3,8 +3,8 @@ use borrow.Author.Needs.{needs}
 use native.Mathlib.Omega.{arith}
 use lib.ListN.{length}
 use Prim.Native.Nat.{_-_, _≤_}
-use Rattle.texts_run.proofs.text_line.Statement.{statement}
-use Rattle.texts_run.proofs.text_line.Tie as tie
+use Rattle.plates_run.proofs.items.text_line.Statement.{statement}
+use Rattle.plates_run.proofs.items.text_line.Tie as tie
 
 abbrev Inv-loop : tie.InvT-loop
 Inv-loop s i₀ i-end i = i ≤ length s
