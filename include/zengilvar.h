@@ -66,6 +66,9 @@ dm_coded dm_encode(const uint8_t *plate, size_t plate_len, const uint8_t *name, 
  * stand twice. Who needs them sorted or without doubles sorts a copy. */
 dm_coded dm_list(const uint8_t *plate, size_t plate_len, const uint8_t *name, size_t name_len, uint8_t *out, size_t out_len);
 
+/* Whether these bytes are a plate: dm_encode and dm_list do not refuse them with 10. For plates that were kept or sent. */
+bool dm_is_plate(const uint8_t *plate, size_t plate_len);
+
 #ifdef __cplusplus
 }
 #endif

@@ -11,6 +11,8 @@ use coder::Coded;
 use coder::answer::encode;
 use coder::answer::list;
 
+pub mod is_plate; // is_plate.rt: whether bytes are a plate
+
 // What dm_build answers.
 #[repr(C)]
 pub struct DmBuilt {

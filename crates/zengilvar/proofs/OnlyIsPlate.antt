@@ -1,0 +1,11 @@
+-- Only one answer satisfies the promise of `dm_is_plate`. Assumes nothing.
+use Prim.Native.Nat.{ℕ}
+use mathlib.Core.Path.{_≡_}
+use mathlib.Core.Bool.{Bool}
+use mathlib.Core.List.{List}
+use Rattle.laws.proofs.Only.{only}
+use Rattle.plate.specs.Plate.{edition1}
+use Rattle.plate.specs.Read.{acceptedIn}
+
+pub dm-is-plate : (plate : List ℕ) (r r′ : Bool) → r ≡ acceptedIn edition1 plate → r′ ≡ acceptedIn edition1 plate → r ≡ r′
+dm-is-plate plate r r′ e f = only e f
