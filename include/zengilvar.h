@@ -1,30 +1,14 @@
-/* Zengilvar: Daitch-Mokotoff codes of names, from rules that you give as text.
+/* Zengilvar: Daitch-Mokotoff codes of names, from rules that you give as text. zengilvar_standard.h has the standard rules, built.
  *
  * Link libzengilvar.a (`rt staticlib zengilvar` writes it to target/staticlib). It calls memcpy and memset alone, holds no memory
  * between calls and takes none from a heap; calls may run in several threads at once, each with its own buffers.
  *
  * Buffers. Every buffer is yours, before, during and after the call; nothing keeps a pointer. The buffers that are read (text, plate
  * and name) may be read-only. The buffer that is written (plate of dm_build, out of the other two) must not overlap any other buffer
- * of the same call. No text needs a zero byte at its end. A pointer must not be null, not even with length 0. Any bytes and any lengths
- * are allowed besides: what cannot be answered is refused by a number.
+ * of the same call. No text needs a zero byte at its end. A pointer may be null where its length is 0, and nowhere else. Any bytes
+ * and any lengths are allowed besides: what cannot be answered is refused by a number.
  *
- * What is written stands at the front of the buffer. The bytes behind it are left as they were, and after a refusal all of them are.
- *
- * Numbers that come back:
- *    0  answered
- *    1  rule text over 65,536 bytes, or name over 256 bytes
- *    2  not UTF-8, or rule text holds a zero byte
- *    3  an item of rule text is not recognised
- *    4  empty pattern
- *    5  pattern over 16 bytes
- *    6  a field with over 8 alternatives
- *    7  an alternative that is not 0 to 6 ASCII digits
- *    8  rule 513, or the 129th distinct folding key
- *    9  the buffer is shorter than the plate
- *   10  bytes that are not a plate
- *   11  name holds a character that is neither white space nor below U+0180
- *   12  the buffer is too small for the codes, or the name has over 64 branches
- * dm_build gives 0 to 9; dm_encode and dm_list give 0, 1, 2, 10, 11, 12. */
+ * What is written stands at the front of the buffer. The bytes behind it are left as they were, and after a refusal all of them are. */
 #ifndef ZENGILVAR_H
 #define ZENGILVAR_H
 
@@ -36,11 +20,68 @@
 extern "C" {
 #endif
 
-/* No plate is longer. */
+#define DM_VERSION "0.1.0"
+#define DM_VERSION_MAJOR 0
+#define DM_VERSION_MINOR 1
+#define DM_VERSION_PATCH 0
+
+/* Limits of rule text. What goes over one is refused by the number behind it. */
+#define DM_TEXT_MOST 65536     /* bytes of a text: 1 */
+#define DM_PATTERN_MOST 16     /* bytes of a pattern: 5 */
+#define DM_ALTERNATIVES_MOST 8 /* alternatives of a field: 6 */
+#define DM_DIGITS_MOST 6       /* digits of an alternative: 7 */
+#define DM_RULES_MOST 512      /* rules: 8 */
+#define DM_FOLDINGS_MOST 128   /* distinct keys of foldings: 8 */
+
+/* No plate is longer: a buffer of so many bytes takes every plate. */
 #define DM_PLATE_MOST 51428
-/* One code, and the codes of 64 branches with a bar between two: no more is written. */
+
+/* Limits of a name. */
+#define DM_NAME_MOST 256         /* bytes: 1 */
+#define DM_CHARACTERS_END 0x180  /* from here on only white space is allowed: 11 */
+#define DM_CODES_MOST 64         /* codes that are held side by side on the way: 12 */
+
+/* One code is six digits; in a list code k, from 0, begins at byte DM_CODE_STEP * k. No call writes more than the two lengths below. */
+#define DM_CODE_STEP 7
 #define DM_ENCODE_MOST 6
 #define DM_LIST_MOST 447
+
+/* Numbers that come back. dm_build gives 0 to 9; dm_encode and dm_list give 0, 1, 2, 10, 11, 12. */
+enum dm_number {
+    DM_ANSWERED = 0,
+    DM_TOO_LONG = 1,
+    DM_NOT_TEXT = 2,
+    DM_NOT_RECOGNISED = 3,
+    DM_EMPTY_PATTERN = 4,
+    DM_LONG_PATTERN = 5,
+    DM_MANY_ALTERNATIVES = 6,
+    DM_NOT_DIGITS = 7,
+    DM_TOO_MANY = 8,
+    DM_SHORT_BUFFER = 9,
+    DM_NOT_A_PLATE = 10,
+    DM_CHARACTER_NOT_ALLOWED = 11,
+    DM_ROOM_TOO_SMALL = 12
+};
+
+/* What a number means, in words for people. */
+static inline const char *dm_words(uint64_t number) {
+    switch (number) {
+    case DM_ANSWERED: return "answered";
+    case DM_TOO_LONG: return "the rule text has over 65,536 bytes, or the name over 256";
+    case DM_NOT_TEXT: return "not UTF-8, or a zero byte in rule text";
+    case DM_NOT_RECOGNISED: return "no rule, folding, comment or empty line";
+    case DM_EMPTY_PATTERN: return "an empty pattern";
+    case DM_LONG_PATTERN: return "a pattern over 16 bytes";
+    case DM_MANY_ALTERNATIVES: return "a field with over 8 alternatives";
+    case DM_NOT_DIGITS: return "an alternative that is not 0 to 6 digits";
+    case DM_TOO_MANY: return "over 512 rules, or over 128 folded characters";
+    case DM_SHORT_BUFFER: return "the buffer is shorter than the plate";
+    case DM_NOT_A_PLATE: return "the plate is damaged or no plate";
+    case DM_CHARACTER_NOT_ALLOWED: return "a character that is neither white space nor below U+0180";
+    case DM_ROOM_TOO_SMALL: return "the buffer is too small for the codes, or the name has over 64 codes at some step";
+    default: return "a number that is not known here";
+    }
+}
 
 /* number: as above. line: of the item that is refused by 3 to 8, counted by items, else 0. length: bytes of the plate, 0 if refused. */
 typedef struct {
@@ -55,19 +96,19 @@ typedef struct {
     uint64_t count;
 } dm_coded;
 
-/* Rule text to a plate, which the other two read. `folding`: whether names are folded by the text's foldings. */
+/* Rule text to a plate, which the others read. `folding`: whether names are folded by the text's foldings. */
 dm_built dm_build(const uint8_t *text, size_t text_len, bool folding, uint8_t *plate, size_t plate_len);
+
+/* Whether these bytes are a plate: dm_encode and dm_list do not refuse them with 10. For plates that were kept or sent. */
+bool dm_is_plate(const uint8_t *plate, size_t plate_len);
 
 /* One code, six digits: that of the first alternative everywhere. */
 dm_coded dm_encode(const uint8_t *plate, size_t plate_len, const uint8_t *name, size_t name_len, uint8_t *out, size_t out_len);
 
-/* All codes, six digits each, a bar between two: code k, from 0, begins at byte 7k.
+/* All codes, six digits each, a bar between two.
  * Never sort the codes in place: their order is part of the answer. The first is the one that dm_encode gives, and the same code may
  * stand twice. Who needs them sorted or without doubles sorts a copy. */
 dm_coded dm_list(const uint8_t *plate, size_t plate_len, const uint8_t *name, size_t name_len, uint8_t *out, size_t out_len);
-
-/* Whether these bytes are a plate: dm_encode and dm_list do not refuse them with 10. For plates that were kept or sent. */
-bool dm_is_plate(const uint8_t *plate, size_t plate_len);
 
 #ifdef __cplusplus
 }

@@ -1,0 +1,30 @@
+/* The words of every number, the version, and the answers as they lie in memory. */
+#include "check.h"
+
+void words(void) {
+    static const char *const wanted[] = {
+        "answered",
+        "the rule text has over 65,536 bytes, or the name over 256",
+        "not UTF-8, or a zero byte in rule text",
+        "no rule, folding, comment or empty line",
+        "an empty pattern",
+        "a pattern over 16 bytes",
+        "a field with over 8 alternatives",
+        "an alternative that is not 0 to 6 digits",
+        "over 512 rules, or over 128 folded characters",
+        "the buffer is shorter than the plate",
+        "the plate is damaged or no plate",
+        "a character that is neither white space nor below U+0180",
+        "the buffer is too small for the codes, or the name has over 64 codes at some step",
+        "a number that is not known here",
+    };
+    for (uint64_t number = 0; number < sizeof wanted / sizeof *wanted; number++) {
+        expect(strcmp(dm_words(number), wanted[number]) == 0, "words", wanted[number]);
+    }
+    expect(strcmp(dm_words(UINT64_MAX), wanted[13]) == 0, "words", "the greatest number");
+    char version[32];
+    snprintf(version, sizeof version, "%d.%d.%d", DM_VERSION_MAJOR, DM_VERSION_MINOR, DM_VERSION_PATCH);
+    expect(strcmp(version, DM_VERSION) == 0, "version", DM_VERSION);
+    expect(sizeof(dm_built) == 24 && offsetof(dm_built, line) == 8 && offsetof(dm_built, length) == 16, "layout", "dm_built");
+    expect(sizeof(dm_coded) == 16 && offsetof(dm_coded, count) == 8, "layout", "dm_coded");
+}
