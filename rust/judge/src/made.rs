@@ -1,8 +1,8 @@
-//! Made inputs: rule texts, names, surnames, damaged copies.
+//! Made inputs: rule texts, names, surnames, damaged copies, plates as long as can be.
 
 use crate::codes::WHITE;
 use crate::random::Random;
-use crate::Content;
+use crate::{Content, Rule};
 
 /// What a rule text is made of.
 pub struct Taste {
@@ -273,5 +273,45 @@ pub fn surname(random: &mut Random) -> String {
         2 => format!("{name}-{}", random.one_of(&FRONT)),
         3 => format!("von {name}"),
         _ => name,
+    }
+}
+
+/// 512 rules of 16 bytes, eight alternatives of six digits in every field, 128 foldings: 51,428 bytes.
+pub fn longest_plate(random: &mut Random) -> Content {
+    let mut content = Content { folding: true, ..Content::default() };
+    content.foldings.extend((0xE0..0x160).filter_map(char::from_u32).map(|key| (key, 'a')));
+    for number in 0..512 {
+        let first = ["a", "c", "m", "r"][number / 128];
+        let mut field = || (0..8).map(|_| format!("{:06}", random.below(1_000_000))).collect();
+        content.rules.push(Rule { pattern: format!("{first}{number:015}"), fields: [field(), field(), field()] });
+    }
+    content
+}
+
+/// 512 rules that begin with r, the longest first, each pattern several times.
+pub fn crowded_plate(random: &mut Random) -> Content {
+    let mut content = Content::default();
+    for number in 0..512 {
+        let mut field = || vec![random.below(10).to_string()];
+        let fields = [field(), field(), field()];
+        content.rules.push(Rule { pattern: format!("r{}", "o".repeat(15 - number / 32)), fields });
+    }
+    content
+}
+
+#[cfg(test)]
+mod tests {
+    use super::*;
+    use crate::plate;
+
+    #[test]
+    fn the_longest_plate() {
+        assert_eq!(plate::write(&longest_plate(&mut Random::new(1))).len(), 51_428);
+    }
+
+    #[test]
+    fn a_crowded_plate_is_one() {
+        let content = crowded_plate(&mut Random::new(1));
+        assert_eq!(plate::read(&plate::write(&content)), Some(content));
     }
 }

@@ -23,6 +23,14 @@ mod at_hand {
         }
     }
 
+    /// The line of the crate's error and its text of that line; none for a text that it takes.
+    pub fn refusal(text: &str) -> Option<(usize, String)> {
+        match DaitchMokotoffSoundexBuilder::with_rules(text).build() {
+            Err(PhoneticError::ParseRuleError(error)) => Some((error.line_number, error.line_content)),
+            _ => None,
+        }
+    }
+
     impl Coder {
         pub fn encode(&self, name: &str) -> String {
             self.0.encode(name)
@@ -47,6 +55,10 @@ mod at_hand {
         missing()
     }
 
+    pub fn refusal(_: &str) -> Option<(usize, String)> {
+        missing()
+    }
+
     fn missing() -> ! {
         panic!("the source of rphonetic was not at hand when this was compiled")
     }
@@ -66,7 +78,7 @@ mod at_hand {
     }
 }
 
-pub use at_hand::{build, Coder};
+pub use at_hand::{build, refusal, Coder};
 
 #[cfg(rphonetic)]
 use {

@@ -1,28 +1,15 @@
 //! The scope paper's examples, through the wrapper.
 
-use zengilvar::{raw, Cause, DaitchMokotoffSoundex, DaitchMokotoffSoundexBuilder, Refusal};
-
-const SMALL: &str = "\
-à=a
-\"a\" \"0\" \"\" \"\"
-\"o\" \"0\" \"\" \"\"
-\"ie\" \"1\" \"\" \"\"
-\"ch\" \"4|5\" \"4|5\" \"4|5\"
-\"c\" \"4|5\" \"4|5\" \"4|5\"
-\"r\" \"9\" \"9\" \"9\"
-\"s\" \"4\" \"4\" \"4\"
-\"w\" \"7\" \"7\" \"7\"
-\"m\" \"6\" \"6\" \"6\"
-\"n\" \"6\" \"6\" \"6\"
-\"h\" \"5\" \"5\" \"\"
-";
+use judge::SMALL;
+use std::error::Error;
+use zengilvar::{raw, Cause, DaitchMokotoffSoundex, DaitchMokotoffSoundexBuilder, Encoder, PhoneticError};
 
 fn coder(text: &str) -> DaitchMokotoffSoundex {
     DaitchMokotoffSoundexBuilder::with_rules(text).build().expect("a good text")
 }
 
-fn refused(cause: Cause, line: u64) -> Option<Refusal> {
-    Some(Refusal { cause, line })
+fn refused(cause: Cause) -> Option<PhoneticError> {
+    Some(PhoneticError::Refused(cause))
 }
 
 #[test]
@@ -60,35 +47,81 @@ fn codes() {
 
 #[test]
 fn the_standard_rules() {
-    let standard = coder(include_str!("../../../rules/daitch-mokotoff.txt"));
+    let standard = DaitchMokotoffSoundex::default();
+    assert_eq!(standard, coder(include_str!("../../../rules/daitch-mokotoff.txt")));
     assert_eq!(standard.encode("Rosochowaciec").as_deref(), Ok("944744"));
     let codes = "944744|944745|944754|944755|945744|945745|945754|945755";
     assert_eq!(standard.soundex("Rosochowaciec").as_deref(), Ok(codes));
     assert_eq!(standard.soundex("sjs").as_deref(), Ok("440000|400000"));
-    assert_eq!(DaitchMokotoffSoundex::with_plate(standard.plate().to_vec()), standard);
+    let flat = DaitchMokotoffSoundexBuilder::default().ascii_folding(false).build().expect("the standard rules");
+    assert_ne!(flat.encode("Ábel"), standard.encode("Ábel"));
 }
 
 #[test]
-fn refusals() {
+fn a_plate_is_checked_when_taken() {
     let small = coder(SMALL);
-    assert_eq!(small.encode(&"r".repeat(257)).err(), refused(Cause::TooLong, 0));
-    assert_eq!(small.soundex("\u{180}").err(), refused(Cause::ForeignCharacter, 0));
-    assert_eq!(small.soundex("cacacacacacac").err(), refused(Cause::ShortBranchRoom, 0));
-    assert_eq!(small.soundex("cacacacacacaca").err(), refused(Cause::ShortBranchRoom, 0));
-    assert_eq!(DaitchMokotoffSoundex::with_plate(vec![2]).encode("a").err(), refused(Cause::NotAPlate, 0));
-    let texts = [
-        ("\0", Cause::NotText, 0),
-        ("/* */\nx", Cause::NotRecognised, 3),
-        ("\"\" \"\" \"\" \"\"", Cause::EmptyPattern, 1),
-        ("\n\"aaaaaaaaaaaaaaaaa\" \"\" \"\" \"\"", Cause::LongPattern, 2),
-        ("\"a\" \"||||||||\" \"x\" \"\"", Cause::ManyAlternatives, 1),
-        ("\"a\" \"x\" \"||||||||\" \"\"", Cause::NotDigits, 1),
-    ];
-    for (text, cause, line) in texts {
-        assert_eq!(DaitchMokotoffSoundexBuilder::with_rules(text).build().err(), refused(cause, line), "{text}");
+    assert_eq!(DaitchMokotoffSoundex::with_plate(small.plate().to_vec()), Ok(small.clone()));
+    let mut longer = small.plate().to_vec();
+    longer.push(0);
+    for bytes in [vec![], vec![2], longer, SMALL.as_bytes().to_vec()] {
+        assert_eq!(DaitchMokotoffSoundex::with_plate(bytes).err(), refused(Cause::NotAPlate));
     }
+}
+
+#[test]
+fn refused_names() {
+    let small = coder(SMALL);
+    for (name, cause) in [
+        ("r".repeat(257).as_str(), Cause::TooLong),
+        ("\u{180}", Cause::CharacterNotAllowed),
+        ("cacacacacacac", Cause::RoomTooSmall),
+        ("cacacacacacaca", Cause::RoomTooSmall),
+    ] {
+        assert_eq!(small.soundex(name).err(), refused(cause), "{name}");
+        assert_eq!(small.inner_soundex(name, true).err(), refused(cause), "{name}");
+        if cause != Cause::RoomTooSmall {
+            assert_eq!(small.encode(name).err(), refused(cause), "{name}");
+            assert_eq!(small.inner_soundex(name, false).err(), refused(cause), "{name}");
+            assert_eq!(small.is_encoded_equals("r", name).err(), refused(cause), "{name}");
+            assert_eq!(small.is_encoded_equals(name, "r").err(), refused(cause), "{name}");
+        }
+    }
+    assert_eq!(small.is_encoded_equals("mn", "nm"), Ok(true));
+    assert_eq!(small.is_encoded_equals("mn", "mm"), Ok(false));
+}
+
+#[test]
+fn refused_texts() {
     let many = "\"a\" \"\" \"\" \"\"\n".repeat(513);
-    assert_eq!(DaitchMokotoffSoundexBuilder::with_rules(&many).build().err(), refused(Cause::ManyRules, 513));
+    let long = "\n".repeat(65_537);
+    let texts = [
+        (long.as_str(), Cause::TooLong, 0, ""),
+        ("x\0", Cause::NotText, 0, ""),
+        ("x", Cause::NotRecognised, 1, "x"),
+        ("/* */\nx y\r\nz", Cause::NotRecognised, 3, "x y\r"),
+        ("/*\n\n*/\n\"a\n\" \"1\" \"1\" \"1\"\n\n/* never closed\n", Cause::NotRecognised, 7, "/* never closed"),
+        ("a=\nb=c", Cause::NotRecognised, 1, "a="),
+        ("// c\n=x\n", Cause::NotRecognised, 2, "=x"),
+        ("\n=x\ny", Cause::NotRecognised, 2, ""),
+        ("\"a\" \"\" \"\" \"\n\"b\" \"\" \"\" \"\"", Cause::NotRecognised, 1, "\"a\" \"\" \"\" \""),
+        ("\"\" \"\" \"\" \"\"", Cause::EmptyPattern, 1, "\"\" \"\" \"\" \"\""),
+        ("\n\"aaaaaaaaaaaaaaaaa\" \"\" \"\" \"\"", Cause::LongPattern, 2, "\"aaaaaaaaaaaaaaaaa\" \"\" \"\" \"\""),
+        ("\"a\" \"||||||||\" \"x\" \"\"", Cause::ManyAlternatives, 1, "\"a\" \"||||||||\" \"x\" \"\""),
+        ("é=e\n\"a\" \"x\" \"||||||||\" \"\"", Cause::NotDigits, 2, "\"a\" \"x\" \"||||||||\" \"\""),
+        (many.as_str(), Cause::TooMany, 513, "\"a\" \"\" \"\" \"\""),
+    ];
+    for (text, cause, line, content) in texts {
+        let Err(PhoneticError::ParseRuleError(error)) = DaitchMokotoffSoundexBuilder::with_rules(text).build() else {
+            panic!("refused by another error, or not at all: {text:?}");
+        };
+        let told = (error.cause, error.line_number, error.line_content.as_str());
+        assert_eq!(told, (cause, line, content), "{text:?}");
+        assert_eq!((error.description.as_str(), error.filename.as_deref()), (cause.words(), None));
+        assert_eq!(error.to_string(), format!("Unknown:{line} {} : {content}", cause.words()));
+        let outer = PhoneticError::from(error.clone());
+        assert_eq!((outer.to_string(), outer.cause()), (format!("Error parsing rule file {error}"), cause));
+        assert_eq!(outer.source().map(|inner| inner.to_string()), Some(error.to_string()));
+    }
 }
 
 #[test]
@@ -108,4 +141,5 @@ fn raw_calls() {
     assert_eq!(raw::list(small.plate(), b"Rosochowaciec", &mut out), raw::Coded { number: 12, count: 0 });
     assert_eq!(out, [0xEE; 54]);
     assert_eq!(raw::list(small.plate(), b"\xFF", &mut out), raw::Coded { number: 2, count: 0 });
+    assert!(raw::is_plate(small.plate()) && !raw::is_plate(&[]));
 }

@@ -1,17 +1,3 @@
-//! The calls of libzengilvar.a as they are, on slices. Nothing is demanded of the bytes or the lengths.
-//!
-//! The declarations must say what include/zengilvar.h says: nothing checks the two against each other.
-
-/// What `build` answers: number (0 if answered), line (0 except with refusals 3 to 8), length of the plate (0 if
-/// refused).
-#[repr(C)]
-#[derive(Debug, Clone, Copy, PartialEq, Eq)]
-pub struct Built {
-    pub number: u64,
-    pub line: u64,
-    pub length: u64,
-}
-
 /// What `encode` and `list` answer: number (0 if answered), count of codes (0 if refused).
 #[repr(C)]
 #[derive(Debug, Clone, Copy, PartialEq, Eq)]
@@ -21,8 +7,6 @@ pub struct Coded {
 }
 
 extern "C" {
-    fn dm_build(text: *const u8, text_len: usize, folding: bool, plate: *mut u8, plate_len: usize) -> Built;
-
     fn dm_encode(
         plate: *const u8,
         plate_len: usize,
@@ -40,12 +24,6 @@ extern "C" {
         out: *mut u8,
         out_len: usize,
     ) -> Coded;
-}
-
-/// Rule text and folding flag to a plate, at the front of `plate`. Refused, no byte of it is changed.
-pub fn build(text: &[u8], folding: bool, plate: &mut [u8]) -> Built {
-    // SAFETY: both slices are valid for their lengths, and `plate` is borrowed alone, so it is apart from `text`.
-    unsafe { dm_build(text.as_ptr(), text.len(), folding, plate.as_mut_ptr(), plate.len()) }
 }
 
 /// The first code of the name, at the front of `out`. Refused, no byte of it is changed.

@@ -1,0 +1,60 @@
+//! The wrapper's constants: at their sizes there is an answer, beyond them a refusal.
+
+use judge::random::Random;
+use judge::{made, plate, SMALL};
+use zengilvar::{
+    raw, Cause, DaitchMokotoffSoundex, DaitchMokotoffSoundexBuilder, Encoder, LONGEST_LIST, LONGEST_NAME,
+    LONGEST_PLATE, LONGEST_TEXT,
+};
+
+fn small() -> DaitchMokotoffSoundex {
+    DaitchMokotoffSoundexBuilder::with_rules(SMALL).build().expect("a good text")
+}
+
+#[test]
+fn the_longest_plate() {
+    let content = made::longest_plate(&mut Random::new(1));
+    let bytes = plate::write(&content);
+    assert_eq!(bytes.len(), LONGEST_PLATE);
+    let coder = DaitchMokotoffSoundex::with_plate(bytes.clone()).expect("a plate");
+    let rule = &content.rules[511];
+    assert_eq!(coder.soundex(&rule.pattern), Ok(rule.fields[0].join("|")));
+    assert_eq!(coder.encode(&rule.pattern).as_ref(), Ok(&rule.fields[0][0]));
+    let longer = [bytes, vec![0]].concat();
+    assert_eq!(longer.len(), LONGEST_PLATE + 1);
+    assert_eq!(DaitchMokotoffSoundex::with_plate(longer).map_err(|error| error.cause()), Err(Cause::NotAPlate));
+}
+
+/// The largest plate that a text can give fills a text of nearly its longest.
+#[test]
+fn the_longest_text() {
+    let field = vec!["123456"; 8].join("|");
+    let mut text = String::new();
+    for number in 0..339 {
+        text += &format!("\"aaaaaaaaaaaaa{number:03}\" \"{field}\" \"{field}\" \"{field}\"\n");
+    }
+    text += &"\n".repeat(LONGEST_TEXT - text.len());
+    let coder = DaitchMokotoffSoundexBuilder::with_rules(&text).build().expect("a text of the longest length");
+    assert_eq!(coder.soundex("aaaaaaaaaaaaa338").as_deref(), Ok("123456"));
+    let refused = DaitchMokotoffSoundexBuilder::with_rules(&format!("{text}\n")).build();
+    assert_eq!(refused.map_err(|error| error.cause()), Err(Cause::TooLong));
+}
+
+#[test]
+fn the_longest_name() {
+    assert_eq!(small().encode(&"r".repeat(LONGEST_NAME)).as_deref(), Ok("900000"));
+    assert_eq!(small().encode(&"r".repeat(LONGEST_NAME + 1)).map_err(|error| error.cause()), Err(Cause::TooLong));
+}
+
+#[test]
+fn the_longest_list() {
+    let wanted: Vec<String> = (0..64).map(|k| format!("{k:06b}").replace('0', "4").replace('1', "5")).collect();
+    assert_eq!(small().inner_soundex("cacacacacaca", true), Ok(wanted.clone()));
+    assert_eq!(small().soundex("cacacacacaca"), Ok(wanted.join("|")));
+    let mut out = [0xEE; LONGEST_LIST];
+    let less = LONGEST_LIST - 1;
+    let refused = raw::list(small().plate(), b"cacacacacaca", &mut out[..less]);
+    assert_eq!((refused, out), (raw::Coded { number: 12, count: 0 }, [0xEE; LONGEST_LIST]));
+    let listed = raw::list(small().plate(), b"cacacacacaca", &mut out);
+    assert_eq!((listed, &out[..]), (raw::Coded { number: 0, count: 64 }, wanted.join("|").as_bytes()));
+}
