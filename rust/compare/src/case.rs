@@ -1,12 +1,13 @@
 //! One case: a call with its inputs and the length of the buffer lent to it, and whether its answer is right.
 
+use crate::calls::Calls;
 use judge::answers::{self, Call};
 use judge::codes::Walked;
 use judge::text::Fault;
 use judge::{plate, Content};
 use oracle::Coder;
 use std::fmt;
-use zengilvar::raw;
+use zengilvar::{raw, LONGEST_LIST};
 
 /// What a text comes to: the plate and what it holds, or the refusal.
 pub type TextAnswer = Result<(Vec<u8>, Content), Fault>;
@@ -110,10 +111,16 @@ pub fn name_answer(
 }
 
 /// What is wrong with build's answer.
-pub fn build_differs(answer: &TextAnswer, text: &[u8], folding: bool, lent: usize) -> Option<String> {
+pub fn build_differs(
+    calls: &dyn Calls,
+    answer: &TextAnswer,
+    text: &[u8],
+    folding: bool,
+    lent: usize,
+) -> Option<String> {
     let right = answers::build(answer, lent);
     for turn in [false, true] {
-        let (built, told) = lend(lent, turn, |buffer| raw::build(text, folding, buffer), |_| right.plate.clone());
+        let (built, told) = lend(lent, turn, |buffer| calls.build(text, folding, buffer), |_| right.plate.clone());
         let wanted = raw::Built { number: right.number, line: right.line, length: right.plate.len() as u64 };
         if built != wanted {
             return Some(format!("answered {built:?}, right is {wanted:?}"));
@@ -125,55 +132,65 @@ pub fn build_differs(answer: &TextAnswer, text: &[u8], folding: bool, lent: usiz
     None
 }
 
-/// What is wrong with encode's or list's answer.
-pub fn code_differs(answer: &NameAnswer, call: Call, plate: &[u8], name: &[u8], lent: usize) -> Option<String> {
+/// What is wrong with encode's or list's answer; in the buffer that takes every list, with is_plate's too.
+pub fn code_differs(
+    calls: &dyn Calls,
+    answer: &NameAnswer,
+    call: Call,
+    plate: &[u8],
+    name: &[u8],
+    lent: usize,
+) -> Option<String> {
     let right = answers::code(answer, lent);
     let run = |buffer: &mut [u8]| match call {
-        Call::Encode => raw::encode(plate, name, buffer),
-        Call::List => raw::list(plate, name, buffer),
+        Call::Encode => calls.encode(plate, name, buffer),
+        Call::List => calls.list(plate, name, buffer),
     };
     let (coded, told) = lend(lent, false, run, |_| right.codes.clone());
     let wanted = raw::Coded { number: right.number, count: right.count };
     if coded != wanted {
         return Some(format!("answered {coded:?}, right is {wanted:?}"));
     }
+    if lent == LONGEST_LIST && calls.is_plate(plate) == (right.number == 10) {
+        return Some(format!("is_plate and refusal {} do not agree", right.number));
+    }
     told
 }
 
 impl Case {
     /// What is wrong with the answer to this case, judged afresh.
-    pub fn differs(&self) -> Option<String> {
+    pub fn differs(&self, calls: &dyn Calls) -> Option<String> {
         match self {
             Case::Build { text, folding, lent } => {
                 let (answer, _, told) = text_answer(text, *folding);
-                told.or_else(|| build_differs(&answer, text, *folding, *lent))
+                told.or_else(|| build_differs(calls, &answer, text, *folding, *lent))
             }
             Case::Code { call, rules: Rules::Text(text, folding), name, lent } => {
                 let (answer, coder, _) = text_answer(text, *folding);
                 let (plate, content) = answer.ok()?;
                 let (answer, told) = name_answer(Some(&content), coder.as_ref(), name, *call);
-                told.or_else(|| code_differs(&answer, *call, &plate, name, *lent))
+                told.or_else(|| code_differs(calls, &answer, *call, &plate, name, *lent))
             }
             Case::Code { call, rules: Rules::Plate(bytes), name, lent } => {
                 let content = plate::read(bytes);
                 let (answer, _) = name_answer(content.as_ref(), None, name, *call);
-                code_differs(&answer, *call, bytes, name, *lent)
+                code_differs(calls, &answer, *call, bytes, name, *lent)
             }
         }
     }
 
     /// A case that still differs, as small as can be had by leaving out bytes, in a bounded number of tries.
-    pub fn smallest(mut self) -> Self {
+    pub fn smallest(mut self, calls: &dyn Calls) -> Self {
         let mut tries = TRIES;
         loop {
             let before = self.size();
             for part in 0..2 {
-                self.shorten(part, &mut tries);
+                self.shorten(calls, part, &mut tries);
             }
             for lent in 0..*self.lent() {
                 let mut less = self.clone();
                 *less.lent() = lent;
-                if less.still_differs(&mut tries) {
+                if less.still_differs(calls, &mut tries) {
                     self = less;
                     break;
                 }
@@ -185,7 +202,7 @@ impl Case {
     }
 
     /// Leaves out pieces of one input, long ones first, as long as the case still differs.
-    fn shorten(&mut self, part: usize, tries: &mut usize) {
+    fn shorten(&mut self, calls: &dyn Calls, part: usize, tries: &mut usize) {
         let mut width = self.part(part).map_or(0, |bytes| bytes.len());
         while width > 0 {
             let mut at = 0;
@@ -195,7 +212,7 @@ impl Case {
                     let end = (at + width).min(bytes.len());
                     bytes.drain(at..end);
                 }
-                match less.still_differs(tries) {
+                match less.still_differs(calls, tries) {
                     true => *self = less,
                     false => at += width,
                 }
@@ -205,12 +222,12 @@ impl Case {
     }
 
     /// Whether the case differs, at the cost of a try; with no tries left, no.
-    fn still_differs(&self, tries: &mut usize) -> bool {
+    fn still_differs(&self, calls: &dyn Calls, tries: &mut usize) -> bool {
         if *tries == 0 {
             return false;
         }
         *tries -= 1;
-        self.differs().is_some()
+        self.differs(calls).is_some()
     }
 
     fn part(&mut self, part: usize) -> Option<&mut Vec<u8>> {

@@ -3,7 +3,7 @@
 use crate::runs::{Ready, Runs};
 use judge::made;
 use judge::random::Random;
-use judge::{plate, Content, Rule, SMALL, STANDARD};
+use judge::{plate, SMALL, STANDARD};
 
 pub fn all(runs: &mut Runs, times: usize, seed: u64) {
     examples(runs);
@@ -20,6 +20,28 @@ pub fn all(runs: &mut Runs, times: usize, seed: u64) {
     damaged_plates(runs, &mut Random::new(seed + 3_000), 30_000 * times);
     foreign_patterns(runs, &mut Random::new(seed + 4_000), 1_000 * times);
     surnames(runs, &mut Random::new(seed + 5_000), 5_000 * times);
+}
+
+/// Of each section but the longest a part: what a wrong coder is held to.
+pub fn some(runs: &mut Runs) {
+    let parts: [fn(&mut Runs); 11] = [
+        examples,
+        orders,
+        |runs| pairs(runs, &mut Random::new(1), 150),
+        |runs| surnames(runs, &mut Random::new(2), 100),
+        |runs| foreign_patterns(runs, &mut Random::new(3), 50),
+        |runs| damaged_texts(runs, &mut Random::new(4), 500),
+        |runs| damaged_plates(runs, &mut Random::new(5), 500),
+        |runs| full_plates(runs, &mut Random::new(6), 2),
+        limits,
+        short_names,
+        characters,
+    ];
+    for part in parts {
+        if !runs.is_done() {
+            part(runs);
+        }
+    }
 }
 
 fn small(runs: &mut Runs, folding: bool) -> Ready {
@@ -393,8 +415,8 @@ fn damaged_texts(runs: &mut Runs, random: &mut Random, texts: usize) {
 fn full_plates(runs: &mut Runs, random: &mut Random, plates: usize) {
     for place in 0..plates {
         let bytes = match place % 2 {
-            0 => plate::write(&longest(random)),
-            _ => plate::write(&crowded(random)),
+            0 => plate::write(&made::longest_plate(random)),
+            _ => plate::write(&made::crowded_plate(random)),
         };
         let ready = runs.plate(bytes.clone());
         names(runs, random, &ready, 6);
@@ -404,29 +426,6 @@ fn full_plates(runs: &mut Runs, random: &mut Random, plates: usize) {
         }
     }
     runs.section("full plates");
-}
-
-/// 512 rules of 16 bytes, eight alternatives of six digits in every field, 128 foldings: 51,428 bytes.
-fn longest(random: &mut Random) -> Content {
-    let mut content = Content { folding: true, ..Content::default() };
-    content.foldings.extend((0xE0..0x160).filter_map(char::from_u32).map(|key| (key, 'a')));
-    for number in 0..512 {
-        let first = ["a", "c", "m", "r"][number / 128];
-        let mut field = || (0..8).map(|_| format!("{:06}", random.below(1_000_000))).collect();
-        content.rules.push(Rule { pattern: format!("{first}{number:015}"), fields: [field(), field(), field()] });
-    }
-    content
-}
-
-/// 512 rules that begin with r, the longest first, each pattern several times.
-fn crowded(random: &mut Random) -> Content {
-    let mut content = Content::default();
-    for number in 0..512 {
-        let mut field = || vec![random.below(10).to_string()];
-        let fields = [field(), field(), field()];
-        content.rules.push(Rule { pattern: format!("r{}", "o".repeat(15 - number / 32)), fields });
-    }
-    content
 }
 
 /// Plates with a bit turned, cut off, lengthened, or with rules in any order, and bytes that never were a plate.
@@ -502,20 +501,4 @@ fn surnames(runs: &mut Runs, random: &mut Random, count: usize) {
         runs.name(&ready, "Rosochowaciec".as_bytes());
     }
     runs.section("standard rules, made surnames");
-}
-
-#[cfg(test)]
-mod tests {
-    use super::*;
-
-    #[test]
-    fn the_longest_plate() {
-        assert_eq!(plate::write(&longest(&mut Random::new(1))).len(), 51_428);
-    }
-
-    #[test]
-    fn a_crowded_plate_is_one() {
-        let content = crowded(&mut Random::new(1));
-        assert_eq!(plate::read(&plate::write(&content)), Some(content));
-    }
 }

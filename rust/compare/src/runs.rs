@@ -1,5 +1,6 @@
 //! Runs cases, counts them, and keeps what differs.
 
+use crate::calls::Calls;
 use crate::case::{self, Case, NameAnswer, Rules};
 use judge::answers::{self, Call};
 use judge::codes::BRANCHES;
@@ -20,10 +21,13 @@ pub struct Ready {
     coder: Option<Coder>,
 }
 
-pub struct Runs {
+pub struct Runs<'a> {
+    calls_of: &'a dyn Calls,
+    /// In a control nothing is told, and nothing is asked any more once a difference was found.
+    control: bool,
     pub differences: u64,
     /// (rules, name) pairs, and those of them whose codes the Rust gave.
-    pairs: u64,
+    pub pairs: u64,
     with_rust: u64,
     /// Rule texts, and those of them whose line of refusal the Rust gave.
     texts: u64,
@@ -35,9 +39,11 @@ pub struct Runs {
     begun: Instant,
 }
 
-impl Runs {
-    pub fn new() -> Self {
+impl<'a> Runs<'a> {
+    pub fn new(calls_of: &'a dyn Calls, control: bool) -> Self {
         Self {
+            calls_of,
+            control,
             differences: 0,
             pairs: 0,
             with_rust: 0,
@@ -52,12 +58,20 @@ impl Runs {
 
     /// Says what the section brought.
     pub fn section(&self, words: &str) {
+        if self.control {
+            return;
+        }
         let calls: u64 = self.calls.iter().sum();
         let seconds = self.begun.elapsed().as_secs_f64();
         println!(
             "{seconds:6.1} s, behind {words}: {} texts, {} pairs ({} coded by the Rust), {calls} calls",
             self.texts, self.pairs, self.with_rust
         );
+    }
+
+    /// Whether enough is known: in a control one difference is.
+    pub fn is_done(&self) -> bool {
+        self.control && self.differences > 0
     }
 
     /// Builds the text into buffers of many lengths. The rules, if it is built.
@@ -81,8 +95,11 @@ impl Runs {
             self.difference(make(51_428), told);
         }
         for lent in lents {
+            if self.is_done() {
+                break;
+            }
             self.count(0, answers::build(&answer, lent).number);
-            if let Some(told) = case::build_differs(&answer, text, folding, lent) {
+            if let Some(told) = case::build_differs(self.calls_of, &answer, text, folding, lent) {
                 self.difference(make(lent), told);
             }
         }
@@ -99,6 +116,9 @@ impl Runs {
     /// Encodes and lists the name into buffers of many lengths: 0 to 8, around the list's own length, around the length
     /// of the longest branch list, around 447.
     pub fn name(&mut self, ready: &Ready, name: &[u8]) {
+        if self.is_done() {
+            return;
+        }
         self.pairs += 1;
         let listed = self.answer(ready, name, Call::List);
         let mut lents = BTreeSet::from([0, 1, 5, 6, 7, 8, 447]);
@@ -119,6 +139,9 @@ impl Runs {
 
     /// Lists the name into one buffer that takes every list.
     pub fn name_once(&mut self, ready: &Ready, name: &[u8]) {
+        if self.is_done() {
+            return;
+        }
         self.pairs += 1;
         let listed = self.answer(ready, name, Call::List);
         self.lengths(ready, name, Call::List, &listed, BTreeSet::from([447]));
@@ -138,7 +161,7 @@ impl Runs {
     fn lengths(&mut self, ready: &Ready, name: &[u8], call: Call, answer: &NameAnswer, lents: BTreeSet<usize>) {
         for lent in lents {
             self.count(1 + (call == Call::List) as usize, answers::code(answer, lent).number);
-            if let Some(told) = case::code_differs(answer, call, &ready.plate, name, lent) {
+            if let Some(told) = case::code_differs(self.calls_of, answer, call, &ready.plate, name, lent) {
                 self.difference(Case::Code { call, rules: ready.rules.clone(), name: name.to_vec(), lent }, told);
             }
         }
@@ -151,9 +174,12 @@ impl Runs {
 
     fn difference(&mut self, case: Case, told: String) {
         self.differences += 1;
+        if self.control {
+            return;
+        }
         if self.differences <= LOOKED_AT && self.shown.len() < SHOWN {
-            let small = case.smallest();
-            let told = small.differs().unwrap_or(told);
+            let small = case.smallest(self.calls_of);
+            let told = small.differs(self.calls_of).unwrap_or(told);
             let words = format!("{small}: {told}");
             if self.shown.insert(words.clone()) {
                 println!("DIFFERENCE: {words}");
