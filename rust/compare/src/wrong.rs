@@ -186,6 +186,17 @@ impl Wrong {
         }
     }
 
+    /// The character before, for the next one.
+    fn behind(&self, before: Option<char>, first: char, group: bool, taken: bool) -> Option<char> {
+        match (group, taken) {
+            (false, _) if self.is("start_by_position") => before.or(Some('\0')),
+            (false, _) if self.is("no_group_between") => before.map(|_| '\0'),
+            (false, _) => before,
+            (true, false) if self.is("no_match_passed") => before,
+            (true, _) => Some(first),
+        }
+    }
+
     fn extend(&self, branch: &Branch, alternative: &str, anyway: bool) -> Branch {
         let ends = match self.is("equals") {
             true => branch.last == alternative,
@@ -252,13 +263,7 @@ impl Wrong {
                 }
                 None => at += 1,
             }
-            before = match (group, taken) {
-                (false, _) if self.is("start_by_position") => before.or(Some('\0')),
-                (false, _) if self.is("no_group_between") => before.map(|_| '\0'),
-                (false, _) => before,
-                (true, None) if self.is("no_match_passed") => before,
-                (true, _) => Some(first),
-            };
+            before = self.behind(before, first, group, taken.is_some());
         }
         match is_over(&branches) {
             true => Err(12),
