@@ -28,7 +28,7 @@ fn the_longest_plate() {
 /// The largest plate that a text can give fills a text of nearly its longest.
 #[test]
 fn the_longest_text() {
-    let field = vec!["123456"; 8].join("|");
+    let field = ["123456"; 8].join("|");
     let mut text = String::new();
     for number in 0..339 {
         text += &format!("\"aaaaaaaaaaaaa{number:03}\" \"{field}\" \"{field}\" \"{field}\"\n");
