@@ -1,9 +1,16 @@
-// The plate of rules/daitch-mokotoff.txt, flag on: the standard rules, built in. tests/standard builds the text and holds the bytes to these.
+// The plate of rules/daitch-mokotoff.txt, flag on: the standard rules, built in. The definitions quote the text, and the plate is proved to be what build
+// writes of it; tests/standard holds the quoted text to the file.
 ghost use mathlib.Core.Path.{_≡_};
 ghost use lib.ListN.{length};
+ghost use mathlib.Core.Bool.{true};
+ghost use Rattle.plate.specs.Plate.{edition1};
+ghost use Rattle.plate.specs.Read.{acceptedIn};
+ghost use Rattle.standard.specs.Plate.{standard};
 
 // Made once and lent: a constant array is laid on the stack anew wherever it is named.
 pub fn standard_plate() -> [u8; 1411]
+    ensures { λ r. ⌜ r ≡ standard ⌝ }
+    ensures { λ r. ⌜ acceptedIn edition1 r ≡ true ⌝ }
     ensures { λ r. ⌜ 1411 ≡ length r ⌝ }
 {
     PLATE
