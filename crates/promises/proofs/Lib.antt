@@ -1,3 +1,12 @@
+pub mod Said
+pub mod CodedWhen
+pub mod OnlyWhen
+pub mod BuiltWhen
+pub mod Places
+pub mod Digits
+pub mod Refusals
+pub mod Gives
+pub mod Matches
 pub mod Wider
-pub mod Numbers
-pub mod Promises
+pub mod Largest
+pub mod Calls

@@ -1,44 +1,26 @@
--- The mission's three demands as statements over the public calls. A call is spoken of by its promise: what holds of whatever answer r and lent buffer
--- afterwards `out` meet it holds of the code, which is proved to meet it. Nothing is defined here but names. Assumes nothing.
-use Prim.Native.Nat.{ℕ, _≤_}
+-- The mission's three demands, as what a call leaves, or two. `Built` is what build leaves, `Coded` what encode or list leaves: the numbers that come back and
+-- the lent buffer afterwards. The functions of src/lib.rt only make the library's calls, and promise these statements of them. Assumes nothing.
+use Prim.Native.Nat.{ℕ, _+_, _-_, _*_, _<_, _≤_}
 use mathlib.Core.Path.{_≡_}
 use mathlib.Core.Bool.{Bool, true}
-use mathlib.Core.Option.{some}
 use mathlib.Core.List.{List, [], _∷_, _++_}
-use lib.ListN.{length, take, drop}
-use Rattle.laws.specs.Lists.{In}
-use Rattle.rule_text.specs.Items.{items, firstLine}
+use lib.ListN.{length, take, drop, getD}
+use Rattle.laws.specs.Lists.{In, every}
+use Rattle.chars.specs.Digits.{digit}
+use Rattle.rule_text.specs.Items.{items}
 use Rattle.plate.specs.Plate.{Plate, edition1, goodPlate}
 use Rattle.plate.specs.Written.{plateBytes}
-use Rattle.plate.specs.Read.{readPlate}
-use Rattle.builder.specs.Build.{Book, blank, verdict, buildAnswer, plateOf}
-use Rattle.builder.specs.Build.Verdict.{Fine}
-use Rattle.builder.specs.Outcome.{told}
-use Rattle.builder.specs.declared.Built.{Built}
-use Rattle.plate.proofs.Packed.{Bytes}
-use Rattle.branches.specs.Choice.{Chosen, yielded, firsts, Starts}
-use Rattle.coder.specs.Answer.{joined, listing, listAnswer, encodeAnswer}
-use Rattle.coder.specs.Numbers.{numberOf, countOf, Tells}
-use Rattle.coder.specs.declared.Coded.{Coded}
-use Rattle.coder.specs.Given.{Given, usesIn}
-use Rattle.promises.specs.Wider.{WiderItems}
-
--- ---- the promises of the public calls, as their contracts say them
-
--- builder::build(text, flag, out)
-abbrev pub Builds : List ℕ → Bool → List ℕ → Built → List ℕ → Type 0
-Builds text flag lent r out = told r out ≡ buildAnswer text flag lent
-
--- coder::answer::list(plate, name, out)
-abbrev pub Lists : List ℕ → List ℕ → List ℕ → Coded → List ℕ → Type 0
-Lists plate name lent r out = Tells (listAnswer plate name lent) r out
-
--- coder::answer::encode(plate, name, out)
-abbrev pub Encodes : List ℕ → List ℕ → List ℕ → Coded → List ℕ → Type 0
-Encodes plate name lent r out = Tells (encodeAnswer plate name lent) r out
+use Rattle.builder.specs.Build.{Built}
+use Rattle.branches.specs.Branches.{codes}
+use Rattle.branches.specs.Choice.{Chosen, yielded, firsts}
+use Rattle.coder.specs.Answer.{Coded}
+use Rattle.coder.specs.Given.{usesIn}
+use Rattle.coder.specs.Wider.{WiderRules}
+use Rattle.promises.specs.Said.{rulesOf, foldingsOf, plateSaid, IsPlate}
+use Rattle.promises.specs.When.{BuildNumber, ListNumber, EncodeNumber}
 
 -- ---- demand 1: "Any bytes as rule text, plate or name bring an answer or one numbered refusal, given exactly when document 01 says. A refused call changes
--- no byte of the buffer it was lent." (When each is given is what buildAnswer, listAnswer and encodeAnswer say; the promises equal them.)
+-- no byte of the buffer it was lent." When each number is given stands in When.antt.
 
 -- the numbers of the table that build, and that encode and list, can bring
 abbrev pub buildNumbers : List ℕ
@@ -47,59 +29,99 @@ buildNumbers = 0 ∷ 1 ∷ 2 ∷ 3 ∷ 4 ∷ 5 ∷ 6 ∷ 7 ∷ 8 ∷ 9 ∷ []
 abbrev pub codeNumbers : List ℕ
 codeNumbers = 0 ∷ 1 ∷ 2 ∷ 10 ∷ 11 ∷ 12 ∷ []
 
--- a number of the table; and where it is not 0, nothing is given and every byte is as lent
-abbrev pub Refuses : List ℕ → ℕ → ℕ → List ℕ → List ℕ → Type 0
-Refuses table number given lent out = In number table × ((number ≡ 0 → ⊥) → (given ≡ 0) × (out ≡ lent))
+-- where the number is not 0 nothing is given and every byte is as lent
+abbrev pub Keeps : ℕ → ℕ → List ℕ → List ℕ → Type 0
+Keeps number given lent buffer = (number ≡ 0 → ⊥) → (given ≡ 0) × (buffer ≡ lent)
 
-abbrev pub Demand1 : Type 0
-Demand1 =
-    ((text : List ℕ) (flag : Bool) (lent : List ℕ) (r : Built) (out : List ℕ) → Builds text flag lent r out → Refuses buildNumbers (told r out .number) (told r out .length) lent out)
-    × ((plate name lent : List ℕ) (r : Coded) (out : List ℕ) → Lists plate name lent r out → Refuses codeNumbers (numberOf r) (countOf r) lent out)
-    × ((plate name lent : List ℕ) (r : Coded) (out : List ℕ) → Encodes plate name lent r out → Refuses codeNumbers (numberOf r) (countOf r) lent out)
+abbrev pub BuildRefuses : List ℕ → Bool → List ℕ → Built → Type 0
+BuildRefuses text flag lent a = BuildNumber text flag lent (a .number) (a .line) × In (a .number) buildNumbers × Keeps (a .number) (a .length) lent (a .buffer)
+
+abbrev pub ListRefuses : List ℕ → List ℕ → List ℕ → Coded → Type 0
+ListRefuses plate name lent a = ListNumber plate name lent (a .number) × In (a .number) codeNumbers × Keeps (a .number) (a .count) lent (a .buffer)
+
+abbrev pub EncodeRefuses : List ℕ → List ℕ → List ℕ → Coded → Type 0
+EncodeRefuses plate name lent a = EncodeNumber plate name lent (a .number) × In (a .number) codeNumbers × Keeps (a .number) (a .count) lent (a .buffer)
 
 -- ---- demand 2: "Plates and codes equal the definitions written from the crate's rules and description." (The comparison with the Rust is run, not proved.)
 
--- What is built is the plate of what the text says, the bytes behind it as lent; it is accepted and reads back so. What reads as a plate is that plate's
--- bytes. List writes the codes that its definition lists, encode the one of the first alternatives, the bytes behind them as lent.
-abbrev pub Demand2 : Type 0
-Demand2 =
-    ((text : List ℕ) (flag : Bool) (lent : List ℕ) (r : Built) (out : List ℕ) → Bytes text → Builds text flag lent r out → told r out .number ≡ 0
-    → (b : Book) × (verdict firstLine blank (items text) ≡ Fine b)
-    × (let bytes = plateBytes edition1 (plateOf flag b) in (out ≡ bytes ++ drop (length bytes) lent) × (told r out .length ≡ length bytes) × (readPlate bytes ≡ some (plateOf flag b))))
-    × ((s : List ℕ) (p : Plate) → Bytes s → readPlate s ≡ some p → (s ≡ plateBytes edition1 p) × (goodPlate edition1 p ≡ true))
-    × ((plate name lent : List ℕ) (r : Coded) (out : List ℕ) → Lists plate name lent r out → numberOf r ≡ 0
-    → (p : Plate) × (cs : List (List ℕ)) × Given plate name lent p cs × (countOf r ≡ length cs) × (out ≡ joined cs ++ drop (length (joined cs)) lent))
-    × ((plate name lent : List ℕ) (r : Coded) (out : List ℕ) → Encodes plate name lent r out → numberOf r ≡ 0
-    → (p : Plate) × (readPlate plate ≡ some p) × (countOf r ≡ 1)
-    × (let code = yielded (usesIn p name) (firsts (usesIn p name)) in out ≡ code ++ drop (length code) lent))
+-- What is built is the plate that the text says, one that obeys the table; the bytes behind it are as lent.
+abbrev pub BuildGives : List ℕ → Bool → List ℕ → Built → Type 0
+BuildGives text flag lent a =
+    let bytes = plateBytes edition1 (plateSaid flag text) in
+    a .number ≡ 0 → (goodPlate edition1 (plateSaid flag text) ≡ true) × (a .length ≡ length bytes) × (a .length ≤ length lent) × (a .buffer ≡ bytes ++ drop (length bytes) lent)
 
--- ---- demand 3: "More never loses a match." Each part speaks of a list that was given: plate, name, codes.
+-- "code number k, from 0, is lent the buffer from byte 7k on"
+abbrev pub codeAt : Coded → ℕ → List ℕ
+codeAt a k = take 6 (drop (7 * k) (a .buffer))
+
+abbrev pub SixDigits : List ℕ → Type 0
+SixDigits c = (length c ≡ 6) × (every digit c ≡ true)
+
+-- These codes are written, and nothing else: each at its place, six ASCII digits; a bar between two; the bytes behind them as lent.
+pub record Writes (cs : List (List ℕ)) (lent : List ℕ) (a : Coded) : Type 0 where
+  pub counted : a .count ≡ length cs
+  pub long : length (a .buffer) ≡ length lent
+  pub placed : (k : ℕ) → k < a .count → codeAt a k ≡ getD cs k []
+  pub digits : (k : ℕ) → k < a .count → SixDigits (codeAt a k)
+  pub bars : (k : ℕ) → k + 1 < a .count → getD (a .buffer) (7 * k + 6) 0 ≡ 124
+  pub behind : drop (7 * a .count - 1) (a .buffer) ≡ drop (7 * a .count - 1) lent
+
+-- List writes the codes of the branches, encode the one of the first alternatives, of the plate whose bytes were lent.
+abbrev pub ListGives : List ℕ → List ℕ → List ℕ → Coded → Type 0
+ListGives plate name lent a = a .number ≡ 0 → (p : Plate) × IsPlate p plate × Writes (codes (usesIn p name)) lent a
+
+abbrev pub EncodeGives : List ℕ → List ℕ → List ℕ → Coded → Type 0
+EncodeGives plate name lent a = a .number ≡ 0 → (p : Plate) × IsPlate p plate × Writes (yielded (usesIn p name) (firsts (usesIn p name)) ∷ []) lent a
+
+-- Bytes are those of one plate at most.
+abbrev pub OnePlate : Type 0
+OnePlate = (bytes : List ℕ) (p q : Plate) → IsPlate p bytes → IsPlate q bytes → p ≡ q
+
+-- 01: "The largest is 4 + 672 + 50,752 = 51,428 bytes."
+abbrev pub Largest : Type 0
+Largest =
+    ((bytes : List ℕ) (p : Plate) → IsPlate p bytes → length bytes ≤ 51428)
+    × ((p : Plate) × (bytes : List ℕ) × IsPlate p bytes × (length bytes ≡ 51428))
+
+-- ---- demand 3: "More never loses a match."
 
 -- a) "The codes listed are exactly those that some choice of one alternative at each use of a rule yields"
-abbrev pub Demand3a : Type 0
-Demand3a =
-    (plate name lent : List ℕ) (p : Plate) (cs : List (List ℕ)) → Given plate name lent p cs
-    → ((k : List ℕ) → In k cs → (choice : List (List ℕ)) × Chosen (usesIn p name) choice × (k ≡ yielded (usesIn p name) choice))
-    × ((choice : List (List ℕ)) → Chosen (usesIn p name) choice → In (yielded (usesIn p name) choice) cs)
+abbrev pub ListsChoices : List ℕ → List ℕ → Coded → Type 0
+ListsChoices plate name a =
+    a .number ≡ 0
+    → (p : Plate)
+    × IsPlate p plate
+    × ((k : ℕ) → k < a .count → (choice : List (List ℕ)) × Chosen (usesIn p name) choice × (codeAt a k ≡ yielded (usesIn p name) choice))
+    × ((choice : List (List ℕ)) → Chosen (usesIn p name) choice → (k : ℕ) × (k < a .count) × (codeAt a k ≡ yielded (usesIn p name) choice))
 
--- b) "the unbranched one first": it is the code of the first alternatives, and the one that encode gives in any buffer that holds it
-abbrev pub Demand3b : Type 0
-Demand3b =
-    (plate name lent : List ℕ) (p : Plate) (cs : List (List ℕ)) → Given plate name lent p cs
-    → Starts (yielded (usesIn p name) (firsts (usesIn p name))) cs
-    × ((other : List ℕ) → 6 ≤ length other → encodeAnswer plate name other ≡ listing (yielded (usesIn p name) (firsts (usesIn p name)) ∷ []) other)
+-- b) "the unbranched one first": where list answers, encode answers in any buffer that holds a code, and gives the first of the list
+abbrev pub EncodesFirst : Coded → List ℕ → Coded → Type 0
+EncodesFirst a other e = a .number ≡ 0 → 6 ≤ length other → (e .number ≡ 0) × (e .count ≡ 1) × (codeAt e 0 ≡ codeAt a 0)
 
--- c) "Further alternatives behind a rule's keep every earlier code and the first.": two texts that both build, whose items differ only so
-abbrev pub Demand3c : Type 0
-Demand3c =
-    (text wider : List ℕ) (flag : Bool) (lent₁ lent₂ : List ℕ) → Bytes text → Bytes wider → WiderItems (items text) (items wider)
-    → buildAnswer text flag lent₁ .number ≡ 0 → buildAnswer wider flag lent₂ .number ≡ 0
-    → (name room₁ room₂ : List ℕ) (p q : Plate) (cs ds : List (List ℕ))
-    → Given (take (buildAnswer text flag lent₁ .length) (buildAnswer text flag lent₁ .buffer)) name room₁ p cs
-    → Given (take (buildAnswer wider flag lent₂ .length) (buildAnswer wider flag lent₂ .buffer)) name room₂ q ds
-    → ((k : List ℕ) → In k cs → In k ds) × ((k : List ℕ) → Starts k cs → Starts k ds)
+-- c) "Further alternatives behind a rule's keep every earlier code and the first."
+abbrev pub KeepsCodes : Coded → Coded → Type 0
+KeepsCodes a b = ((k : ℕ) → k < a .count → (j : ℕ) × (j < b .count) × (codeAt b j ≡ codeAt a k)) × (codeAt b 0 ≡ codeAt a 0)
+
+-- The second plate differs from the first only by further alternatives behind.
+abbrev pub WiderPlate : Plate → Plate → Type 0
+WiderPlate p q = (q .flag ≡ p .flag) × (q .foldings ≡ p .foldings) × WiderRules (p .rules) (q .rules)
+
+-- Of two lists by such plates, built or not.
+abbrev pub PlatesKeep : List ℕ → List ℕ → Coded → Coded → Type 0
+PlatesKeep plate wide a b = (p q : Plate) → IsPlate p plate → IsPlate q wide → WiderPlate p q → a .number ≡ 0 → b .number ≡ 0 → KeepsCodes a b
+
+-- The rules and the foldings of the second text, each in text order, differ from those of the first only so, whatever the comments, lines and blanks.
+abbrev pub WiderText : List ℕ → List ℕ → Type 0
+WiderText text wide = (foldingsOf (items wide) ≡ foldingsOf (items text)) × WiderRules (rulesOf (items text)) (rulesOf (items wide))
+
+-- Of two lists by the plates that build wrote of such texts.
+abbrev pub TextsKeep : List ℕ → List ℕ → Coded → Coded → Type 0
+TextsKeep text wide a b = WiderText text wide → a .number ≡ 0 → b .number ≡ 0 → KeepsCodes a b
 
 -- d) "A list given once is given again, byte for byte, in any longer buffer."
-abbrev pub Demand3d : Type 0
-Demand3d =
-    (plate name lent longer : List ℕ) (p : Plate) (cs : List (List ℕ)) → Given plate name lent p cs → length lent ≤ length longer → Given plate name longer p cs
+abbrev pub GivenAgain : List ℕ → List ℕ → Coded → Coded → Type 0
+GivenAgain lent longer a b =
+    let n = 7 * a .count - 1 in
+    a .number ≡ 0
+    → length lent ≤ length longer
+    → (b .number ≡ 0) × (b .count ≡ a .count) × (take n (b .buffer) ≡ take n (a .buffer)) × (drop n (b .buffer) ≡ drop n longer)

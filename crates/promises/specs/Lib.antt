@@ -1,5 +1,8 @@
 pub mod Case
 pub mod Starred
 pub mod Pinned
-pub mod Wider
+pub mod Said
+pub mod When
 pub mod Demands
+pub mod Calls
+pub mod Pair

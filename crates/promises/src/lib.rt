@@ -1,1 +1,99 @@
-// The mission's three demands as theorems, read in one place: specs/Demands.antt states them, proofs/Promises.antt proves them. No code.
+// The mission's three demands, promised of the library's calls. specs/Demands.antt says each; a function here only makes the calls that it speaks of, so that
+// it is proved exactly if what the calls promise is enough. A call that promised less would not prove it (tests/weakened).
+ghost use Rattle.promises.specs.Calls.{built, coded};
+ghost use Rattle.promises.specs.Demands.{BuildRefuses, BuildGives, ListRefuses, ListGives, EncodeRefuses, EncodeGives, ListsChoices, EncodesFirst, PlatesKeep, TextsKeep, GivenAgain};
+use zengilvar::DmBuilt;
+use zengilvar::DmCoded;
+use zengilvar::dm_build;
+use zengilvar::dm_encode;
+use zengilvar::dm_list;
+
+// Demands 1 and 2, of build.
+fn builds(text: &[u8], folding: bool, plate: &mut [u8]) -> DmBuilt
+    ensures { λ r. ⌜ BuildRefuses (now (text .entry)) folding (now (plate .entry)) (built r (now (plate .exit))) ⌝ }
+    ensures { λ r. ⌜ BuildGives (now (text .entry)) folding (now (plate .entry)) (built r (now (plate .exit))) ⌝ }
+{
+    dm_build(text, folding, plate)
+}
+
+// Demands 1, 2 and 3a, of list.
+fn lists(plate: &[u8], name: &[u8], out: &mut [u8]) -> DmCoded
+    ensures { λ r. ⌜ ListRefuses (now (plate .entry)) (now (name .entry)) (now (out .entry)) (coded r (now (out .exit))) ⌝ }
+    ensures { λ r. ⌜ ListGives (now (plate .entry)) (now (name .entry)) (now (out .entry)) (coded r (now (out .exit))) ⌝ }
+    ensures { λ r. ⌜ ListsChoices (now (plate .entry)) (now (name .entry)) (coded r (now (out .exit))) ⌝ }
+{
+    dm_list(plate, name, out)
+}
+
+// Demands 1 and 2, of encode.
+fn encodes(plate: &[u8], name: &[u8], out: &mut [u8]) -> DmCoded
+    ensures { λ r. ⌜ EncodeRefuses (now (plate .entry)) (now (name .entry)) (now (out .entry)) (coded r (now (out .exit))) ⌝ }
+    ensures { λ r. ⌜ EncodeGives (now (plate .entry)) (now (name .entry)) (now (out .entry)) (coded r (now (out .exit))) ⌝ }
+{
+    dm_encode(plate, name, out)
+}
+
+// What two calls answer.
+struct Both {
+    pub first: DmCoded,
+    pub second: DmCoded,
+}
+
+// Demand 3b: list, and encode into another buffer.
+fn encodes_first(plate: &[u8], name: &[u8], out: &mut [u8], other: &mut [u8]) -> Both
+    ensures { λ r. ⌜ EncodesFirst (coded (r .first) (now (out .exit))) (now (other .entry)) (coded (r .second) (now (other .exit))) ⌝ }
+{
+    let first = dm_list(plate, name, out);
+    let second = dm_encode(plate, name, other);
+    Both {
+        first: first,
+        second: second,
+    }
+}
+
+// Demand 3c: one name listed by two plates.
+fn plates_keep(plate: &[u8], wide: &[u8], name: &[u8], out: &mut [u8], more: &mut [u8]) -> Both
+    ensures { λ r. ⌜ PlatesKeep (now (plate .entry)) (now (wide .entry)) (coded (r .first) (now (out .exit))) (coded (r .second) (now (more .exit))) ⌝ }
+{
+    let first = dm_list(plate, name, out);
+    let second = dm_list(wide, name, more);
+    Both {
+        first: first,
+        second: second,
+    }
+}
+
+// Demand 3c: one name listed by the plates of two texts. Where a build is refused its plate has no byte, and the list is refused too.
+fn texts_keep(
+    text: &[u8],
+    wide: &[u8],
+    folding: bool,
+    plate: &mut [u8],
+    plate2: &mut [u8],
+    name: &[u8],
+    out: &mut [u8],
+    more: &mut [u8],
+) -> Both
+    ensures { λ r. ⌜ TextsKeep (now (text .entry)) (now (wide .entry)) (coded (r .first) (now (out .exit))) (coded (r .second) (now (more .exit))) ⌝ }
+{
+    let b = dm_build(text, folding, plate);
+    let c = dm_build(wide, folding, plate2);
+    let first = dm_list(&plate[..b.length as usize], name, out);
+    let second = dm_list(&plate2[..c.length as usize], name, more);
+    Both {
+        first: first,
+        second: second,
+    }
+}
+
+// Demand 3d: one name listed into two buffers.
+fn given_again(plate: &[u8], name: &[u8], out: &mut [u8], longer: &mut [u8]) -> Both
+    ensures { λ r. ⌜ GivenAgain (now (out .entry)) (now (longer .entry)) (coded (r .first) (now (out .exit))) (coded (r .second) (now (longer .exit))) ⌝ }
+{
+    let first = dm_list(plate, name, out);
+    let second = dm_list(plate, name, longer);
+    Both {
+        first: first,
+        second: second,
+    }
+}

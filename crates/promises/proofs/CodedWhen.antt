@@ -1,0 +1,152 @@
+-- The numbers that the definitions give meet the table's conditions (specs/When.antt), and no two numbers meet them for one input. Assumes nothing.
+use Prim.Native.Nat.{ℕ, _<_, _≤_}
+use mathlib.Core.Path.{_≡_, refl, sym, ap, subst, _∙_}
+use mathlib.Core.Logic.{_⊎_, inl, inr}
+use mathlib.Core.Bool.{Bool, true, false, cond, _&&_, false≢true}
+use mathlib.Core.Option.{Option, none, some}
+use mathlib.Core.List.{List, [], _∷_, _++_, map}
+use native.Mathlib.Omega.{arith}
+use borrow.Author.Tests.{ltb-true, ltb-false}
+use lib.Dec.{ltb}
+use lib.ListN.{length}
+use Rattle.laws.specs.Lists.{In, every}
+use Rattle.laws.proofs.Tests.{or-true, neither}
+use Rattle.laws.proofs.Members.{in-every}
+use Rattle.chars.specs.Utf8.{isText, charsOf}
+use Rattle.chars.specs.Letters.{white}
+use Rattle.plate.specs.Plate.{Plate}
+use Rattle.plate.specs.Read.{readPlate}
+use Rattle.plate.proofs.Packed.{Bytes}
+use Rattle.plate.proofs.Round.{edition1-reads, edition1-exact}
+use Rattle.branches.specs.Branches.{Branch, Use, start, step, run, over, codes}
+use Rattle.branches.specs.Choice.{firstOnly}
+use Rattle.coder.specs.Name.{allowed}
+use Rattle.coder.specs.Answer as code
+use Rattle.coder.specs.Answer.{room, named, plated, listAnswer, encodeAnswer}
+use Rattle.coder.specs.Given.{usesIn}
+use Rattle.coder.proofs.Demands.{some-inj}
+use Rattle.promises.specs.Said.{IsPlate}
+use Rattle.promises.specs.When.{Check, NotAPlate, Strange, Overfull, NameNumber, ListNumber, EncodeNumber}
+
+-- ---- one that fails a test
+
+pub every-false : {A : Type 0} (t : A → Bool) (l : List A) → every t l ≡ false → (x : A) × In x l × (t x ≡ false)
+every-false t [] e = absurd (false≢true (sym e))
+every-false t (x ∷ l) e = go (t x) refl e (λ h. every-false t l h)
+  where
+    go : (b : Bool) → t x ≡ b → b && every t l ≡ false → (every t l ≡ false → (y : _) × In y l × (t y ≡ false)) → (y : _) × In y (x ∷ l) × (t y ≡ false)
+    go false f h below = (x, inl refl, f)
+    go true f h below = let r = below h in (r .0, inr (r .1), r .2)
+
+-- ---- plates
+
+pub plate-read : (bytes : List ℕ) (p : Plate) → IsPlate p bytes → readPlate bytes ≡ some p
+plate-read bytes p w = subst (λ (s : List ℕ). readPlate s ≡ some p) (sym (w .1)) (edition1-reads p (w .0))
+
+pub read-plate : (bytes : List ℕ) (p : Plate) → Bytes bytes → readPlate bytes ≡ some p → IsPlate p bytes
+read-plate bytes p b e = let x = edition1-exact bytes p b e in (x .1, x .0)
+
+-- ---- names
+
+strange : (cs : List ℕ) → every allowed cs ≡ false → (c : ℕ) × In c cs × (white c ≡ false) × (0x180 ≤ c)
+strange cs e =
+    let x = every-false allowed cs e in
+    let n = neither (white (x .0)) (ltb (x .0) 0x180) (x .2) in
+    (x .0, x .1, n .0, ltb-false (x .0) 0x180 (n .1))
+
+not-strange : (cs : List ℕ) → every allowed cs ≡ true → (c : ℕ) × In c cs × (white c ≡ false) × (0x180 ≤ c) → ⊥
+not-strange cs e s = go (or-true (white (s .0)) (ltb (s .0) 0x180) (in-every allowed cs (s .0) e (s .1)))
+  where
+    go : (white (s .0) ≡ true) ⊎ (ltb (s .0) 0x180 ≡ true) → ⊥
+    go (inl h) = false≢true (sym (s .2) ∙ h)
+    go (inr h) = let a = ltb-true (s .0) 0x180 h in let b = s .3 in omega arith
+
+-- The checks of a name in front of a call whose own number meets its own check.
+named-number : (long text fine : Bool) (x : code.Coded) (lent : List ℕ) (w₁ w₂ w₁₁ w₁₂ : Type 0)
+    → (long ≡ true → w₁) → (long ≡ false → w₁ → ⊥) → (text ≡ false → w₂) → (text ≡ true → w₂ → ⊥) → (fine ≡ false → w₁₁) → (fine ≡ true → w₁₁ → ⊥)
+    → Check (x .number) 12 w₁₂ (x .number ≡ 0)
+    → (let n = cond long (code.refusal 1 lent) (cond text (cond fine x (code.refusal 11 lent)) (code.refusal 2 lent)) .number in Check n 1 w₁ (Check n 2 w₂ (Check n 11 w₁₁ (Check n 12 w₁₂ (n ≡ 0)))))
+named-number true text fine x lent w₁ w₂ w₁₁ w₁₂ a a′ b b′ c c′ last = inl (a refl, refl)
+named-number false false fine x lent w₁ w₂ w₁₁ w₁₂ a a′ b b′ c c′ last = inr (a′ refl, inl (b refl, refl))
+named-number false true false x lent w₁ w₂ w₁₁ w₁₂ a a′ b b′ c c′ last = inr (a′ refl, inr (b′ refl, inl (c refl, refl)))
+named-number false true true x lent w₁ w₂ w₁₁ w₁₂ a a′ b b′ c c′ last = inr (a′ refl, inr (b′ refl, inr (c′ refl, last)))
+
+name-number : (call : List Use → List ℕ → code.Coded) (p : Plate) (name lent : List ℕ) (full : Type 0)
+    → Check (call (usesIn p name) lent .number) 12 full (call (usesIn p name) lent .number ≡ 0) → NameNumber name full (named call p name lent .number)
+name-number call p name lent full last =
+    named-number (ltb 256 (length name)) (isText name) (every allowed (charsOf name)) (call (usesIn p name) lent) lent (256 < length name) (isText name ≡ false) (Strange name) full
+    (λ e. ltb-true 256 (length name) e) (λ e h. let k = ltb-false 256 (length name) e in omega arith)
+    (λ e. e) (λ e h. false≢true (sym h ∙ e))
+    (λ e. strange (charsOf name) e) (λ e h. not-strange (charsOf name) e h)
+    last
+
+-- ---- 12
+
+-- Over at the start or after some step.
+over-some : (most : ℕ) (us : List Use) (bs : List Branch) → over most us bs ≡ true → (done more : List Use) × (us ≡ done ++ more) × (most < length (run done bs))
+unfolding over run
+over-some most [] bs e = ([], [], refl, ltb-true most (length bs) e)
+over-some most (u ∷ us) bs e = go (or-true (ltb most (length bs)) (over most us (step u bs)) e) (λ h. over-some most us (step u bs) h)
+  where
+    go : (ltb most (length bs) ≡ true) ⊎ (over most us (step u bs) ≡ true)
+        → (over most us (step u bs) ≡ true → (done more : List Use) × (us ≡ done ++ more) × (most < length (run done (step u bs))))
+        → (done more : List Use) × (u ∷ us ≡ done ++ more) × (most < length (run done bs))
+    go (inl h) below = ([], u ∷ us, refl, ltb-true most (length bs) h)
+    go (inr h) below = let r = below h in (u ∷ r .0, r .1, ap (λ (l : List Use). u ∷ l) (r .2), r .3)
+
+-- Not over, at no step.
+over-none : (most : ℕ) (done more : List Use) (bs : List Branch) → over most (done ++ more) bs ≡ false → length (run done bs) ≤ most
+unfolding over run
+over-none most [] [] bs e = ltb-false most (length bs) e
+over-none most [] (u ∷ us) bs e = let n = neither (ltb most (length bs)) (over most us (step u bs)) e in ltb-false most (length bs) (n .0)
+over-none most (u ∷ done) more bs e = let n = neither (ltb most (length bs)) (over most (done ++ more) (step u bs)) e in over-none most done more (step u bs) (n .1)
+
+tested-12 : (t : Bool) (cs : List (List ℕ)) (lent : List ℕ) (w : Type 0) → (t ≡ true → w) → (t ≡ false → w → ⊥)
+    → (let n = cond t (code.refusal 12 lent) (code.listing cs lent) .number in Check n 12 w (n ≡ 0))
+tested-12 true cs lent w a a′ = inl (a refl, refl)
+tested-12 false cs lent w a a′ = inr (a′ refl, refl)
+
+overfull : (plate name lent : List ℕ) (p : Plate) → IsPlate p plate
+    → (let n = code.listed (usesIn p name) lent .number in Check n 12 (Overfull plate name lent) (n ≡ 0))
+overfull plate name lent p w =
+    tested-12 (over (room lent) (usesIn p name) start) (codes (usesIn p name)) lent (Overfull plate name lent)
+    (λ e. let r = over-some (room lent) (usesIn p name) start e in (p, w, r .0, r .1, r .2, r .3))
+    (λ e o.
+    let same = some-inj (o .0) p (sym (plate-read plate (o .0) (o .1)) ∙ plate-read plate p w) in
+    let cut = ap (λ (q : Plate). usesIn q name) (sym same) ∙ o .4 in
+    let less = over-none (room lent) (o .2) (o .3) start (ap (λ (l : List Use). over (room lent) l start) (sym cut) ∙ e) in
+    let more = o .5 in omega arith)
+
+too-short : (us : List Use) (lent : List ℕ) → (let n = code.encoded us lent .number in Check n 12 (length lent < 6) (n ≡ 0))
+too-short us lent =
+    tested-12 (ltb (length lent) 6) (codes (map firstOnly us)) lent (length lent < 6) (λ e. ltb-true (length lent) 6 e)
+    (λ e h. let k = ltb-false (length lent) 6 e in omega arith)
+
+-- ---- encode and list
+
+module _ (plate name lent : List ℕ) (bytes : Bytes plate) where
+  plated-number : (call : List Use → List ℕ → code.Coded) (full : Type 0)
+      → ((p : Plate) → IsPlate p plate → (let n = call (usesIn p name) lent .number in Check n 12 full (n ≡ 0)))
+      → (let n = plated call (readPlate plate) name lent .number in Check n 10 (NotAPlate plate) (NameNumber name full n))
+  plated-number call full last = go (readPlate plate) refl
+    where
+      go : (o : Option Plate) → readPlate plate ≡ o → (let n = plated call o name lent .number in Check n 10 (NotAPlate plate) (NameNumber name full n))
+      go none e = inl ((λ p w. no (sym e ∙ plate-read plate p w)), refl)
+        where
+          no : {p : Plate} → _≡_ {A = Option Plate} none (some p) → ⊥
+          no h = false≢true (ap is h)
+            where
+              is : Option Plate → Bool
+              is (some q) = true
+              is none = false
+      go (some p) e =
+          let w = read-plate plate p bytes e in
+          inr ((λ never. never p w), name-number call p name lent full (last p w))
+
+  pub list-number : ListNumber plate name lent (listAnswer plate name lent .number)
+  unfolding listAnswer
+  list-number = plated-number code.listed (Overfull plate name lent) (λ p w. overfull plate name lent p w)
+
+  pub encode-number : EncodeNumber plate name lent (encodeAnswer plate name lent .number)
+  unfolding encodeAnswer
+  encode-number = plated-number code.encoded (length lent < 6) (λ p w. too-short (usesIn p name) lent)

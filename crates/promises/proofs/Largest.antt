@@ -1,0 +1,157 @@
+-- The largest plate: no plate that obeys the table is longer than 51,428 bytes, and one is as long: 512 rules and 128 foldings, every field full.
+-- Assumes nothing.
+use Prim.Native.Nat.{ℕ, zero, suc, _+_, _-_, _*_, _/_, _≤_}
+use mathlib.Core.Path.{_≡_, refl, sym, ap, subst, _∙_}
+use mathlib.Core.Bool.{Bool, true, _&&_}
+use mathlib.Core.List.{List, [], _∷_, _++_}
+use native.Mathlib.Nat.{mul-suc, mul-le-mul-left}
+use native.Mathlib.Omega.{arith}
+use borrow.Author.Tests.{leb-true}
+use lib.Dec.{leb}
+use lib.ListN.{length, replicate, length-append}
+use Rattle.laws.specs.Lists.{every, cat, between}
+use Rattle.laws.proofs.Tests.{and-true, between-true}
+use Rattle.chars.specs.Utf8.{isText, textFrom}
+use Rattle.chars.specs.Digits.{digit, isAlternative}
+use Rattle.plate.specs.Bits.{bitsOf}
+use Rattle.plate.specs.Plate.{Folding, Rule, Plate, edition1, mostFoldings, nonzeroByte, goodPattern, goodField, goodRule, goodFolding, goodFoldings, goodRules, goodPlate, rising, ordered}
+use Rattle.plate.specs.Written.{counted, digitBits, alternativeBits, fieldBits, ruleBits, foldingBits, flagBit, headBits, plateBits, plateBytes}
+use Rattle.plate.proofs.Packed.{length-bitsOf}
+use Rattle.builder.proofs.Inks.{pack-length}
+use Rattle.promises.specs.Demands.{Largest}
+
+-- ---- how many bits
+
+-- At most m each.
+cat-most : {A : Type 0} (f : A → List ℕ) (t : A → Bool) (m : ℕ) → ((x : A) → t x ≡ true → length (f x) ≤ m) → (l : List A) → every t l ≡ true → length (cat f l) ≤ m * length l
+cat-most f t m h [] e = omega arith
+cat-most f t m h (x ∷ l) e =
+    let b = and-true (t x) (every t l) e in
+    let one = h x (b .0) in
+    let rest = cat-most f t m h l (b .1) in
+    let sum = length-append (f x) (cat f l) in
+    let more = mul-suc m (length l) in omega arith
+
+-- A counted list: the count's bits, and at most m for each of at most n.
+counted-most : {A : Type 0} (w : ℕ) (f : A → List ℕ) (t : A → Bool) (m n : ℕ) → ((x : A) → t x ≡ true → length (f x) ≤ m) → (l : List A) → every t l ≡ true → length l ≤ n
+    → length (counted w f l) ≤ w + m * n
+counted-most w f t m n h l e few =
+    let sum = length-append (bitsOf w (length l)) (cat f l) in
+    let head = length-bitsOf w (length l) in
+    let rest = cat-most f t m h l e in
+    let grown = mul-le-mul-left {m = length l} {n = n} m few in omega arith
+
+every-any : {A : Type 0} (l : List A) → every (λ (x : A). true) l ≡ true
+every-any [] = refl
+every-any (x ∷ l) = every-any l
+
+alternative-most : (a : List ℕ) → isAlternative a ≡ true → length (alternativeBits a) ≤ 27
+alternative-most a h =
+    let b = and-true (leb (length a) 6) (every digit a) h in
+    counted-most 3 digitBits (λ d. true) 4 6 (λ d e. let n = length-bitsOf 4 (d - 48) in omega arith) a (every-any a) (leb-true (length a) 6 (b .0))
+
+field-most : (f : List (List ℕ)) → goodField f ≡ true → length (fieldBits f) ≤ 220
+field-most f h =
+    let b = and-true (between 1 8 (length f)) (every isAlternative f) h in
+    let few = between-true 1 8 (length f) (b .0) in
+    counted-most 4 alternativeBits isAlternative 27 8 alternative-most f (b .1) (few .1)
+
+pattern-most : (p : List ℕ) → goodPattern p ≡ true → length (counted 5 (bitsOf 8) p) ≤ 133
+pattern-most p h =
+    let b = and-true (between 1 16 (length p)) (every nonzeroByte p && isText p) h in
+    let few = between-true 1 16 (length p) (b .0) in
+    counted-most 5 (bitsOf 8) (λ c. true) 8 16 (λ c e. let n = length-bitsOf 8 c in omega arith) p (every-any p) (few .1)
+
+rule-most : (r : Rule) → goodRule r ≡ true → length (ruleBits r) ≤ 793
+rule-most r h =
+    let a = and-true (goodPattern (r .pattern)) (goodField (r .start) && (goodField (r .vowel) && goodField (r .other))) h in
+    let b = and-true (goodField (r .start)) (goodField (r .vowel) && goodField (r .other)) (a .1) in
+    let c = and-true (goodField (r .vowel)) (goodField (r .other)) (b .1) in
+    let p = pattern-most (r .pattern) (a .0) in
+    let s = field-most (r .start) (b .0) in
+    let v = field-most (r .vowel) (c .0) in
+    let o = field-most (r .other) (c .1) in
+    let one = length-append (counted 5 (bitsOf 8) (r .pattern)) (fieldBits (r .start) ++ (fieldBits (r .vowel) ++ fieldBits (r .other))) in
+    let two = length-append (fieldBits (r .start)) (fieldBits (r .vowel) ++ fieldBits (r .other)) in
+    let three = length-append (fieldBits (r .vowel)) (fieldBits (r .other)) in omega arith
+
+folding-bits : (f : Folding) → length (foldingBits f) ≡ 42
+folding-bits f =
+    let key = length-bitsOf 21 (f .key) in
+    let target = length-bitsOf 21 (f .target) in length-append (bitsOf 21 (f .key)) (bitsOf 21 (f .target)) ∙ omega arith
+
+head-bits : (p : Plate) → length (headBits edition1 p) ≡ 32
+head-bits p =
+    let rules = bitsOf 10 (length (p .rules)) in
+    let foldings = bitsOf 8 (length (p .foldings)) in
+    let flag = bitsOf 1 (flagBit (p .flag)) in
+    let a = length-bitsOf 10 (length (p .rules)) in
+    let b = length-bitsOf 8 (length (p .foldings)) in
+    let c = length-bitsOf 1 (flagBit (p .flag)) in
+    let one = length-append rules (foldings ++ (flag ++ bitsOf 5 0)) in
+    let two = length-append foldings (flag ++ bitsOf 5 0) in
+    let three = length-append flag (bitsOf 5 0) in
+    length-append (bitsOf 8 1) (rules ++ (foldings ++ (flag ++ bitsOf 5 0))) ∙ omega arith
+
+plate-bits : (p : Plate) → length (plateBits edition1 p) ≡ 32 + (length (cat foldingBits (p .foldings)) + length (cat ruleBits (p .rules)))
+plate-bits p =
+    let head = head-bits p in
+    let two = length-append (cat foldingBits (p .foldings)) (cat ruleBits (p .rules)) in
+    length-append (headBits edition1 p) (cat foldingBits (p .foldings) ++ cat ruleBits (p .rules)) ∙ omega arith
+
+plate-most : (p : Plate) → goodPlate edition1 p ≡ true → length (plateBytes edition1 p) ≤ 51428
+plate-most p h =
+    let a = and-true (goodRules 512 (p .rules)) (goodFoldings (p .foldings)) h in
+    let b = and-true (leb (length (p .rules)) 512) (every goodRule (p .rules) && ordered (p .rules)) (a .0) in
+    let c = and-true (every goodRule (p .rules)) (ordered (p .rules)) (b .1) in
+    let d = and-true (leb (length (p .foldings)) mostFoldings) (every goodFolding (p .foldings) && rising (p .foldings)) (a .1) in
+    let fewRules = leb-true (length (p .rules)) 512 (b .0) in
+    let fewFoldings = leb-true (length (p .foldings)) 128 (d .0) in
+    let rules = cat-most ruleBits goodRule 793 rule-most (p .rules) (c .0) in
+    let foldings = cat-most foldingBits (λ f. true) 42 (λ f e. let n = folding-bits f in omega arith) (p .foldings) (every-any (p .foldings)) in
+    let bits = plate-bits p in
+    let size = pack-length (plateBits edition1 p) in omega arith
+
+-- ---- one that is as long
+
+-- a rule with all that it may have
+abbrev full : Rule
+full = let field : List (List ℕ) = replicate 8 (replicate 6 48) in record { pattern = replicate 16 97; start = field; vowel = field; other = field }
+
+-- n foldings with rising keys from k on
+abbrev risen : ℕ → ℕ → List Folding
+risen zero k = []
+risen (suc n) k = record { key = k; target = 97 } ∷ risen n (suc k)
+
+abbrev whole : Plate
+whole = record { flag = true; foldings = risen 128 1; rules = replicate 512 full }
+
+many-bits : {A : Type 0} (f : A → List ℕ) (m n : ℕ) (x : A) → length (f x) ≡ m → length (cat f (replicate n x)) ≡ m * n
+many-bits f m zero x e = omega arith
+many-bits f m (suc n) x e =
+    let rest = many-bits f m n x e in
+    let more = mul-suc m n in length-append (f x) (cat f (replicate n x)) ∙ omega arith
+
+risen-bits : (n k : ℕ) → length (cat foldingBits (risen n k)) ≡ 42 * n
+risen-bits zero k = refl
+risen-bits (suc n) k =
+    let f : Folding = record { key = k; target = 97 } in
+    let one = folding-bits f in
+    let rest = risen-bits n (suc k) in length-append (foldingBits f) (cat foldingBits (risen n (suc k))) ∙ omega arith
+
+whole-good : goodPlate edition1 whole ≡ true
+unfolding textFrom
+whole-good = refl
+
+whole-size : length (plateBytes edition1 whole) ≡ 51428
+whole-size =
+    let rules = many-bits ruleBits 793 512 full refl in
+    let foldings = risen-bits 128 1 in
+    let bits : length (plateBits edition1 whole) ≡ 411424 = plate-bits whole ∙ omega arith in
+    pack-length (plateBits edition1 whole) ∙ ap (λ (n : ℕ). (n + 7) / 8) bits
+
+pub largest : Largest
+largest = (
+  (λ bytes p w. subst (λ (s : List ℕ). length s ≤ 51428) (sym (w .1)) (plate-most p (w .0))),
+  (whole, plateBytes edition1 whole, (whole-good, refl), whole-size),
+)

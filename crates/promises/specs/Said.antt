@@ -1,0 +1,45 @@
+-- What a rule text says, in text order, and which bytes are a plate: the words in which the demands speak of texts and plates. Assumes nothing.
+use Prim.Native.Nat.{ℕ}
+use mathlib.Core.Path.{_≡_}
+use mathlib.Core.Bool.{Bool, true}
+use mathlib.Core.List.{List, [], _∷_}
+use Rattle.rule_text.specs.Items.{Item, items}
+use Rattle.rule_text.specs.Items.Item.{RuleItem, FoldingItem, LineEndItem, CommentItem, UnknownItem}
+use Rattle.plate.specs.Plate.{Folding, Rule, Plate, edition1, goodPlate}
+use Rattle.plate.specs.Written.{plateBytes}
+use Rattle.builder.specs.Build.{putRule, putFolding, ruleOf, foldingOf}
+
+-- the rules among items, in text order
+abbrev pub rulesOf : List Item → List Rule
+rulesOf [] = []
+rulesOf (RuleItem p s v o ∷ more) = ruleOf p s v o ∷ rulesOf more
+rulesOf (FoldingItem key target ∷ more) = rulesOf more
+rulesOf (LineEndItem ∷ more) = rulesOf more
+rulesOf (CommentItem newlines ∷ more) = rulesOf more
+rulesOf (UnknownItem ∷ more) = rulesOf more
+
+-- the foldings among items, in text order
+abbrev pub foldingsOf : List Item → List Folding
+foldingsOf [] = []
+foldingsOf (RuleItem p s v o ∷ more) = foldingsOf more
+foldingsOf (FoldingItem key target ∷ more) = foldingOf key target ∷ foldingsOf more
+foldingsOf (LineEndItem ∷ more) = foldingsOf more
+foldingsOf (CommentItem newlines ∷ more) = foldingsOf more
+foldingsOf (UnknownItem ∷ more) = foldingsOf more
+
+-- put in one by one, each by its order, to those held
+abbrev pub putRules : List Rule → List Rule → List Rule
+putRules held [] = held
+putRules held (r ∷ more) = putRules (putRule r held) more
+
+abbrev pub putFoldings : List Folding → List Folding → List Folding
+putFoldings held [] = held
+putFoldings held (f ∷ more) = putFoldings (putFolding f held) more
+
+-- the plate that a text says, with a folding flag
+abbrev pub plateSaid : Bool → List ℕ → Plate
+plateSaid flag text = record { flag = flag; foldings = putFoldings [] (foldingsOf (items text)); rules = putRules [] (rulesOf (items text)) }
+
+-- The bytes are those of a plate that obeys the table.
+abbrev pub IsPlate : Plate → List ℕ → Type 0
+IsPlate p bytes = (goodPlate edition1 p ≡ true) × (bytes ≡ plateBytes edition1 p)

@@ -1,0 +1,101 @@
+-- When each number comes back. 01, "Numbers that come back": the table's conditions in its words, in the order in which they are checked. That no two
+-- numbers meet one input's conditions is proved (proofs/When.antt, `..-only`), and that each call's number meets them. Assumes nothing.
+use Prim.Native.Nat.{ℕ, _<_, _≤_}
+use mathlib.Core.Path.{_≡_}
+use mathlib.Core.Logic.{_⊎_}
+use mathlib.Core.Bool.{Bool, false, cond}
+use mathlib.Core.List.{List, [], _∷_, _++_}
+use lib.Dec.{eqb}
+use lib.ListN.{length}
+use Rattle.laws.specs.Lists.{In, some}
+use Rattle.chars.specs.Utf8.{isText, charsOf}
+use Rattle.chars.specs.Letters.{white}
+use Rattle.rule_text.specs.Items.{Item, items, firstLine, lineBehind}
+use Rattle.rule_text.specs.Items.Item.{RuleItem, FoldingItem, LineEndItem, CommentItem, UnknownItem}
+use Rattle.rule_text.specs.Fields.{alternatives}
+use Rattle.chars.specs.Digits.{isAlternative}
+use Rattle.plate.specs.Plate.{Folding, Plate, edition1}
+use Rattle.plate.specs.Written.{plateBytes}
+use Rattle.branches.specs.Branches.{Use, start, run}
+use Rattle.coder.specs.Answer.{room}
+use Rattle.coder.specs.Given.{usesIn}
+use Rattle.promises.specs.Said.{rulesOf, foldingsOf, plateSaid, IsPlate}
+
+-- A check: where this holds the number is m, and only where it does not the rest decides.
+abbrev pub Check : ℕ → ℕ → Type 0 → Type 0 → Type 0
+Check n m when else = (when × (n ≡ m)) ⊎ ((when → ⊥) × else)
+
+-- ---- encode and list: "check 10, 1, 2, 11, 12"
+
+-- 10: "bytes that are not a plate"
+abbrev pub NotAPlate : List ℕ → Type 0
+NotAPlate bytes = (p : Plate) → IsPlate p bytes → ⊥
+
+-- 11: "name holds a character neither White_Space nor below U+0180"
+abbrev pub Strange : List ℕ → Type 0
+Strange name = (c : ℕ) × In c (charsOf name) × (white c ≡ false) × (0x180 ≤ c)
+
+-- 12, for list: "the branch list, at the start or after some step, is longer than room"
+abbrev pub Overfull : List ℕ → List ℕ → List ℕ → Type 0
+Overfull plate name lent =
+    (p : Plate) × IsPlate p plate × (done more : List Use) × (usesIn p name ≡ done ++ more) × (room lent < length (run done start))
+
+-- the name's checks; `full` is the call's own condition for 12
+abbrev pub NameNumber : List ℕ → Type 0 → ℕ → Type 0
+NameNumber name full n = Check n 1 (256 < length name) (Check n 2 (isText name ≡ false) (Check n 11 (Strange name) (Check n 12 full (n ≡ 0))))
+
+abbrev pub ListNumber : List ℕ → List ℕ → List ℕ → ℕ → Type 0
+ListNumber plate name lent n = Check n 10 (NotAPlate plate) (NameNumber name (Overfull plate name lent) n)
+
+-- 12: "For encode: the buffer is under 6 bytes."
+abbrev pub EncodeNumber : List ℕ → List ℕ → List ℕ → ℕ → Type 0
+EncodeNumber plate name lent n = Check n 10 (NotAPlate plate) (NameNumber name (length lent < 6) n)
+
+-- ---- build: "1, then 2 (whole text), then items front to back, the first fault in the text deciding. [..] Last 9."
+
+-- 2: "not UTF-8, or rule text holds a zero byte"
+abbrev pub NotClean : List ℕ → Type 0
+NotClean text = (isText text ≡ false) ⊎ In 0 text
+
+-- 6: "a field with over 8 alternatives"; 7: "an alternative that is not 0 to 6 ASCII digits"; "6 before 7 in each field"
+abbrev pub FieldNumber : List ℕ → ℕ → Type 0 → Type 0
+FieldNumber f n else =
+    Check n 6 (8 < length (alternatives f)) (Check n 7 ((a : List ℕ) × In a (alternatives f) × (isAlternative a ≡ false)) else)
+
+-- the distinct keys of foldings, behind those in a list
+abbrev pub keys : List ℕ → List Folding → List ℕ
+keys known [] = known
+keys known (f ∷ more) = keys (cond (some (eqb (f .key)) known) known (known ++ (f .key ∷ []))) more
+
+-- An item behind others, 0 for no fault. 3: "an item of rule text is not recognised"; 4: "empty pattern"; 5: "pattern over 16 bytes"; 8: "rule 513, or the
+-- 129th distinct folding key". "Inside a rule: 4, 5, then the three fields left to right, then 8."
+abbrev pub ItemNumber : List Item → Item → ℕ → Type 0
+ItemNumber before (RuleItem p s v o) n =
+    Check n 4 (p ≡ [])
+    (Check n 5 (16 < length p)
+    (FieldNumber s n
+    (FieldNumber v n
+    (FieldNumber o n
+    (Check n 8 (512 ≤ length (rulesOf before)) (n ≡ 0))))))
+ItemNumber before (FoldingItem key target) n =
+    let known = keys [] (foldingsOf before) in
+    Check n 8 ((128 ≤ length known) × (In key known → ⊥)) (n ≡ 0)
+ItemNumber before LineEndItem n = n ≡ 0
+ItemNumber before (CommentItem newlines) n = n ≡ 0
+ItemNumber before UnknownItem n = n ≡ 3
+
+-- The items front to back behind others, the counter being at a line: the first with a fault gives its number and that line; where none has one the rest
+-- decides.
+abbrev pub ItemsNumber : List Item → ℕ → List Item → ℕ → ℕ → Type 0 → Type 0
+ItemsNumber before at [] n line else = else
+ItemsNumber before at (i ∷ more) n line else =
+    (ItemNumber before i n × (n ≡ 0 → ⊥) × (line ≡ at)) ⊎ (ItemNumber before i 0 × ItemsNumber (before ++ (i ∷ [])) (lineBehind at i) more n line else)
+
+-- number and line; "line is 0 except with 3 to 8"
+abbrev pub BuildNumber : List ℕ → Bool → List ℕ → ℕ → ℕ → Type 0
+BuildNumber text flag lent n line =
+    Check n 1 (65536 < length text)
+    (Check n 2 (NotClean text)
+    (ItemsNumber [] firstLine (items text) n line
+    (Check n 9 (length lent < length (plateBytes edition1 (plateSaid flag text))) (n ≡ 0))))
+    × (((3 ≤ n) × (n ≤ 8) → ⊥) → line ≡ 0)
