@@ -1,12 +1,12 @@
 -- The characters of a name, from a place on: each is dropped, noted as not allowed, or kept, and the end or a bad sequence decides. Assumes nothing.
 use Prim.Native.Nat.{ℕ, _+_, _-_, _≤_, _<_}
-use mathlib.Core.Path.{_≡_, refl, sym, ap, _∙_}
+use mathlib.Core.Path.{_≡_, refl, sym, ap, ap₂, _∙_}
 use mathlib.Core.Bool.{Bool, true, false, cond, not, _&&_}
 use mathlib.Core.List.{List, [], _∷_, _++_, append-assoc, append-nil}
 use native.Mathlib.Omega.{arith}
 use borrow.Author.Tests.{lt-ltb, le-ltb}
-use lib.ListN.{length, drop, set, replicate, length-append, drop-of-length-le}
-use lib.Seq.{drop-drop}
+use lib.ListN.{length, take, drop, set, replicate, length-append, length-replicate, drop-of-length-le}
+use lib.Seq.{drop-drop, take-at}
 use Rattle.laws.specs.Lists.{every}
 use Rattle.laws.proofs.Many.{store}
 use Rattle.laws.proofs.Tests.{and-right-false}
@@ -17,10 +17,8 @@ use Rattle.chars.specs.declared.Char.the-variants.{One, Bad}
 use Rattle.chars.proofs.Texts.{kind, text-front, chars-front}
 use Rattle.plate.specs.Plate.{Plate}
 use Rattle.plate.specs.Read.{foldBy}
-use Rattle.coder.specs.Name.{allowed, coded, prepared}
-use Rattle.coder.specs.Held.{heldChars, preparedName}
-use Rattle.coder.specs.declared.Prepared.{Prepared}
-use Rattle.coder.specs.declared.Fault.the-variants as Fault
+use Rattle.coder.specs.Name.{allowed, coded, prepared, Named, named}
+use Rattle.coder.specs.Name.Named.{Refused, Chars}
 
 -- ---- one character
 
@@ -33,12 +31,10 @@ module _ (p : Plate) (c : ℕ) where
 
 -- ---- the rest of a name
 
--- The same as `preparedName`, of the bytes that are left; `foreign` says whether a character that is not allowed stood before, `made` are the characters so far.
-unfoldable pub ending : Plate → Bool → List ℕ → List ℕ → Prepared
+-- The same as `named`, of the bytes that are left; `foreign` says whether a character that is not allowed stood before, `made` are the characters so far.
+unfoldable pub ending : Plate → Bool → List ℕ → List ℕ → Named
 ending p foreign made bytes =
-    cond (isText bytes)
-    (cond (not foreign && every allowed (charsOf bytes)) (heldChars (made ++ prepared p bytes) Fault.None) (heldChars [] Fault.NotAllowed))
-    (heldChars [] Fault.NotUtf8)
+    cond (isText bytes) (cond (not foreign && every allowed (charsOf bytes)) (Chars (made ++ prepared p bytes)) (Refused 11)) (Refused 2)
 
 -- A bad sequence is no text.
 text-bad : (s : List ℕ) → charOf s ≡ Bad → isText s ≡ false
@@ -51,10 +47,10 @@ pub record Made (p : Plate) (name chars : List ℕ) (count : ℕ) (foreign : Boo
   pub made : List ℕ
   pub long : length made ≡ count
   pub is : chars ≡ made ++ replicate (256 - count) 0
-  pub left : ending p foreign made (drop at name) ≡ preparedName p name
+  pub left : ending p foreign made (drop at name) ≡ named p name
 
 module _ (p : Plate) (name : List ℕ) where
-  pub too-long : 256 < length name → heldChars [] Fault.TooLong ≡ preparedName p name
+  pub too-long : 256 < length name → Refused 1 ≡ named p name
   too-long h = rw (lt-ltb 256 (length name) h)
 
   pub start : length name ≤ 256 → Made p name (replicate 256 0) 0 false 0
@@ -62,8 +58,13 @@ module _ (p : Plate) (name : List ℕ) where
   start h = record { made = []; long = refl; is = refl; left = rw (le-ltb 256 (length name) h) }
 
   module _ (chars : List ℕ) (count : ℕ) (foreign : Bool) (at : ℕ) (m : Made p name chars count foreign at) where
+    -- The array keeps its length.
+    pub whole : count ≤ 256 → length chars ≡ 256
+    whole h =
+        ap length (m .is) ∙ length-append (m .made) (replicate (256 - count) 0) ∙ ap₂ _+_ (m .long) (length-replicate (256 - count) 0) ∙ omega arith
+
     module _ (r : Char) (e : r ≡ charOf (drop at name)) where
-      pub bad : r ≡ Bad → heldChars [] Fault.NotUtf8 ≡ preparedName p name
+      pub bad : r ≡ Bad → Refused 2 ≡ named p name
       unfolding ending
       bad f = sym (rw (text-bad (drop at name) (sym e ∙ f))) ∙ m .left
 
@@ -97,12 +98,12 @@ module _ (p : Plate) (name : List ℕ) where
             }
 
     module _ (h : length name ≤ at) where
-      pub end-strange : foreign ≡ true → heldChars [] Fault.NotAllowed ≡ preparedName p name
+      pub end-strange : foreign ≡ true → Refused 11 ≡ named p name
       unfolding ending textFrom charsFrom
       end-strange f = rw (drop-of-length-le name h, f) at (m .left)
 
-      pub end : foreign ≡ false → record { chars = chars; count = count; fault = Fault.None } ≡ preparedName p name
+      pub end : foreign ≡ false → Chars (take count chars) ≡ named p name
       unfolding ending textFrom charsFrom
       end f =
-          (λ i. record { chars = (m .is ∙ ap (λ (n : ℕ). m .made ++ replicate (256 - n) 0) (sym (m .long))) i; count = sym (m .long) i; fault = Fault.None })
+          ap Chars (ap (take count) (m .is) ∙ take-at (m .made) (replicate (256 - count) 0) count (m .long))
           ∙ rw (drop-of-length-le name h, f, append-nil) at (m .left)

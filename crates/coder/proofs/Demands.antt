@@ -18,37 +18,34 @@ use Rattle.branches.specs.Branches.{Use, start, over, codes}
 use Rattle.branches.specs.Choice.{Chosen, yielded, Filled, firsts, firstOnly, Starts}
 use Rattle.branches.proofs.Choice.{chosen-listed, listed-chosen, first-listed, firsts-alone}
 use Rattle.branches.proofs.Room.{more-room}
-use Rattle.coder.specs.Name.{allowed, prepared}
-use Rattle.coder.specs.Answer.{Coded, refusal, listing, smaller, room, listed, encoded, named, plated, listAnswer, encodeAnswer}
+use Rattle.coder.specs.Name.{allowed, prepared, Named, named}
+use Rattle.coder.specs.Name.Named.{Chars}
+use Rattle.coder.specs.Answer.{Coded, noCodes, listing, smaller, room, listed, encoded, answered, codedBy, plated, listAnswer, encodeAnswer}
 use Rattle.coder.specs.Given.{Given, usesIn}
 use Rattle.plate.proofs.Facts.{rules-good, rules-ordered}
 use Rattle.coder.proofs.Firsts.{goodUse, uses-good}
+use Rattle.coder.proofs.Answers.{judged}
 
 -- ---- what an answer of 0 says
 
--- The tests of the name passed, and the call answered.
-passed-tests : (long text fine : Bool) (x : Coded) (lent : List ℕ) → cond long (refusal 1 lent) (cond text (cond fine x (refusal 11 lent)) (refusal 2 lent)) .number ≡ 0
-    → (long ≡ false) × (text ≡ true) × (fine ≡ true)
-passed-tests true text fine x lent e = absurd (omega arith)
-passed-tests false true true x lent e = (refl, refl, refl)
-passed-tests false true false x lent e = absurd (omega arith)
-passed-tests false false fine x lent e = absurd (omega arith)
-
--- A name that passes the tests is coded, whatever is lent.
-named-fine : (call : List Use → List ℕ → Coded) (p : Plate) (name lent : List ℕ) → ltb 256 (length name) ≡ false → isText name ≡ true → every allowed (charsOf name) ≡ true
-    → named call p name lent ≡ call (usesIn p name) lent
-named-fine call p name lent a b c = rw (a, b, c)
+-- The name's characters are coded.
+coded-chars : (call : List Use → List ℕ → Coded) (p : Plate) (name lent : List ℕ) → codedBy call p name lent .number ≡ 0 → named p name ≡ Chars (prepared p name)
+coded-chars call p name lent e = go (ltb 256 (length name)) (isText name) (every allowed (charsOf name)) e
+  where
+    go : (long text fine : Bool) → answered call (p .rules) (judged long text fine (prepared p name)) lent .number ≡ 0 → judged long text fine (prepared p name) ≡ Chars (prepared p name)
+    go true text fine e = absurd (omega arith)
+    go false true true e = refl
+    go false true false e = absurd (omega arith)
+    go false false fine e = absurd (omega arith)
 
 -- An answer of 0: the bytes are a plate, and the call answered for its uses; so does any call, whatever is lent.
-answered : (call : List Use → List ℕ → Coded) (o : Option Plate) (name lent : List ℕ) → plated call o name lent .number ≡ 0
+by-uses : (call : List Use → List ℕ → Coded) (o : Option Plate) (name lent : List ℕ) → plated call o name lent .number ≡ 0
     → (p : Plate) × (o ≡ some p) × ((call′ : List Use → List ℕ → Coded) (lent′ : List ℕ) → plated call′ o name lent′ ≡ call′ (usesIn p name) lent′)
-answered call none name lent e = absurd (omega arith)
-answered call (some p) name lent e =
-    let t = passed-tests (ltb 256 (length name)) (isText name) (every allowed (charsOf name)) (call (usesIn p name) lent) lent e in
-    (p, refl, λ call′ lent′. named-fine call′ p name lent′ (t .0) (t .1) (t .2))
+by-uses call none name lent e = absurd (omega arith)
+by-uses call (some p) name lent e = (p, refl, λ call′ lent′. ap (λ (n : Named). answered call′ (p .rules) n lent′) (coded-chars call p name lent e))
 
 -- An answer of 0 is no refusal 12.
-not-12 : (t : Bool) (x : Coded) (lent : List ℕ) → cond t (refusal 12 lent) x .number ≡ 0 → t ≡ false
+not-12 : (t : Bool) (x : Coded) (lent : List ℕ) → cond t (noCodes 12 lent) x .number ≡ 0 → t ≡ false
 not-12 true x lent e = absurd (omega arith)
 not-12 false x lent e = refl
 
@@ -57,12 +54,12 @@ fits : (us : List Use) (lent : List ℕ) → listed us lent .number ≡ 0 → ov
 fits us lent e = not-12 (over (room lent) us start) (listing (codes us) lent) lent e
 
 listed-fits : (us : List Use) (lent : List ℕ) → over (room lent) us start ≡ false → listed us lent ≡ listing (codes us) lent
-listed-fits us lent e = ap (λ (b : Bool). cond b (refusal 12 lent) (listing (codes us) lent)) e
+listed-fits us lent e = ap (λ (b : Bool). cond b (noCodes 12 lent) (listing (codes us) lent)) e
 
 -- In a buffer that holds a code encode gives that of the first alternatives, alone.
 encoded-alone : (us : List Use) (lent : List ℕ) → Filled us → ltb (length lent) 6 ≡ false → encoded us lent ≡ listing (yielded us (firsts us) ∷ []) lent
 encoded-alone us lent f e =
-    ap (λ (b : Bool). cond b (refusal 12 lent) (listing (codes (map firstOnly us)) lent)) e ∙ ap (λ (l : List (List ℕ)). listing l lent) (firsts-alone us f)
+    ap (λ (b : Bool). cond b (noCodes 12 lent) (listing (codes (map firstOnly us)) lent)) e ∙ ap (λ (l : List (List ℕ)). listing l lent) (firsts-alone us f)
 
 -- A longer buffer has no less room.
 room-grows : (lent lent′ : List ℕ) → length lent ≤ length lent′ → room lent ≤ room lent′
@@ -115,7 +112,7 @@ module _ (plate name : List ℕ) where
   pub gives : (lent : List ℕ) → listAnswer plate name lent .number ≡ 0 → (p : Plate) × (cs : List (List ℕ)) × Given plate name lent p cs
   unfolding listAnswer
   gives lent e =
-      let a = answered listed (readPlate plate) name lent e in
+      let a = by-uses listed (readPlate plate) name lent e in
       let us = usesIn (a .0) name in
       let f = fits us lent (ap (λ (x : Coded). x .number) (sym (a .2 listed lent)) ∙ e) in
       (a .0, codes us, record { read = a .1; all = refl; written = a .2 listed lent ∙ listed-fits us lent f })
@@ -125,7 +122,7 @@ module _ (plate name : List ℕ) where
       → (p : Plate) × (readPlate plate ≡ some p) × (encodeAnswer plate name lent ≡ listing (yielded (usesIn p name) (firsts (usesIn p name)) ∷ []) lent)
   unfolding encodeAnswer
   encodes lent e =
-      let a = answered encoded (readPlate plate) name lent e in
+      let a = by-uses encoded (readPlate plate) name lent e in
       let us = usesIn (a .0) name in
       let h = not-12 (ltb (length lent) 6) (listing (codes (map firstOnly us)) lent) lent (ap (λ (x : Coded). x .number) (sym (a .2 encoded lent)) ∙ e) in
       (a .0, a .1, a .2 encoded lent ∙ encoded-alone us lent (filled plate name (a .0) (a .1)) h)
@@ -141,7 +138,7 @@ module _ (plate name : List ℕ) where
     pub longer : (lent′ : List ℕ) → length lent ≤ length lent′ → Given plate name lent′ p cs
     unfolding listAnswer
     longer lent′ h =
-        let a = answered listed (readPlate plate) name lent number-0 in
+        let a = by-uses listed (readPlate plate) name lent number-0 in
         let same = some-inj (a .0) p (sym (a .1) ∙ g .read) in
         let again : (call : List Use → List ℕ → Coded) (l : List ℕ) → plated call (readPlate plate) name l ≡ call us l =
         λ call l. a .2 call l ∙ ap (λ (q : Plate). call (usesIn q name) l) same in
@@ -166,6 +163,6 @@ module _ (plate name : List ℕ) where
     pub encode-gives : (lent′ : List ℕ) → 6 ≤ length lent′ → encodeAnswer plate name lent′ ≡ listing (yielded us (firsts us) ∷ []) lent′
     unfolding listAnswer encodeAnswer
     encode-gives lent′ h =
-        let a = answered listed (readPlate plate) name lent number-0 in
+        let a = by-uses listed (readPlate plate) name lent number-0 in
         let same = some-inj (a .0) p (sym (a .1) ∙ g .read) in
         a .2 encoded lent′ ∙ ap (λ (q : Plate). encoded (usesIn q name) lent′) same ∙ encoded-alone us lent′ (filled plate name p (g .read)) (le-ltb (length lent′) 6 h)

@@ -22,7 +22,7 @@ use Rattle.branches.proofs.Room.{no-room, single-fits}
 use Rattle.coder.specs.Walk.{letters, startsWith, group, vowelFollows, field, Passed, passed, walk, uses}
 use Rattle.coder.specs.Search.{Hit, hitFrom, brings}
 use Rattle.coder.specs.Search.Hit.{Taken, None}
-use Rattle.coder.specs.Answer.{refusal, listing, room, listed, encoded}
+use Rattle.coder.specs.Answer.{noCodes, listing, room, listed, encoded}
 use Rattle.coder.specs.Held.{cutAll}
 use Rattle.coder.proofs.Hits.{search-brings}
 use Rattle.coder.proofs.Alternatives.{rule-field}
@@ -111,4 +111,4 @@ under-six lent =
 -- Encode is list over first alternatives.
 pub encode-listed : (us : List Use) (lent : List ℕ) → encoded us lent ≡ listed (cutAll 1 us) lent
 encode-listed us lent =
-    ap (λ (t : Bool). cond t (refusal 12 lent) (listing (codes (cutAll 1 us)) lent)) (sym (one-over (room lent) us ∙ under-six lent))
+    ap (λ (t : Bool). cond t (noCodes 12 lent) (listing (codes (cutAll 1 us)) lent)) (sym (one-over (room lent) us ∙ under-six lent))

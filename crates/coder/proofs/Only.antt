@@ -1,12 +1,13 @@
--- Only one answer and one buffer satisfy each promise of this crate: number and count tell the answer. Assumes nothing.
+-- Only one answer and one buffer satisfy each promise of this crate: what is told says both. Assumes nothing.
 use Prim.Native.Nat.{ℕ}
-use mathlib.Core.Path.{_≡_, refl, sym, ap₂, _∙_}
+use mathlib.Core.Path.{_≡_, refl, sym, ap, _∙_}
 use mathlib.Core.Bool.{cond}
 use mathlib.Core.List.{List}
 use lib.Dec.{eqb}
-use Rattle.laws.proofs.Only.{only}
+use Rattle.plate.specs.Plate.{edition1}
+use Rattle.plate.specs.Read.{plateAt}
 use Rattle.coder.specs.Answer as wanted
-use Rattle.coder.specs.Numbers.{numberOf, countOf, Tells}
+use Rattle.coder.specs.Outcome.{told, listedTo}
 use Rattle.coder.specs.declared.Coded.{Coded}
 use Rattle.coder.specs.declared.Coded.the-variants.{Codes, NotAPlate, NameTooLong, NotUtf8, CharacterNotAllowed, RoomTooSmall}
 
@@ -19,20 +20,36 @@ answerOf number count =
     (cond (eqb number 2) NotUtf8
     (cond (eqb number 11) CharacterNotAllowed RoomTooSmall))))
 
-tells-answer : (r : Coded) → answerOf (numberOf r) (countOf r) ≡ r
-tells-answer (Codes n) = refl
-tells-answer NotAPlate = refl
-tells-answer NameTooLong = refl
-tells-answer NotUtf8 = refl
-tells-answer CharacterNotAllowed = refl
-tells-answer RoomTooSmall = refl
+told-answer : (r : Coded) (out : List ℕ) → answerOf (told r out .number) (told r out .count) ≡ r
+told-answer (Codes n) out = refl
+told-answer NotAPlate out = refl
+told-answer NameTooLong out = refl
+told-answer NotUtf8 out = refl
+told-answer CharacterNotAllowed out = refl
+told-answer RoomTooSmall out = refl
 
-one : (a : wanted.Coded) (r r′ : Coded) (buffer buffer′ : List ℕ) → Tells a r buffer → Tells a r′ buffer′ → (r ≡ r′) × (buffer ≡ buffer′)
-one a r r′ buffer buffer′ e f = (sym (tells-answer r) ∙ ap₂ answerOf (only (e .0) (f .0)) (only (e .1) (f .1)) ∙ tells-answer r′, only (e .2) (f .2))
+pub told-buffer : (r : Coded) (out : List ℕ) → told r out .buffer ≡ out
+told-buffer (Codes n) out = refl
+told-buffer NotAPlate out = refl
+told-buffer NameTooLong out = refl
+told-buffer NotUtf8 out = refl
+told-buffer CharacterNotAllowed out = refl
+told-buffer RoomTooSmall out = refl
 
-module _ (plate name lent : List ℕ) (r r′ : Coded) (buffer buffer′ : List ℕ) where
-  pub list : Tells (wanted.listAnswer plate name lent) r buffer → Tells (wanted.listAnswer plate name lent) r′ buffer′ → (r ≡ r′) × (buffer ≡ buffer′)
-  list e f = one (wanted.listAnswer plate name lent) r r′ buffer buffer′ e f
+-- What is told leaves one answer and one buffer.
+one : (a : wanted.Coded) (r r′ : Coded) (out out′ : List ℕ) → told r out ≡ a → told r′ out′ ≡ a → (r ≡ r′) × (out ≡ out′)
+one a r r′ out out′ e f = (
+  sym (told-answer r out) ∙ ap (λ (x : wanted.Coded). answerOf (x .number) (x .count)) (e ∙ sym f) ∙ told-answer r′ out′,
+  sym (told-buffer r out) ∙ ap (λ (x : wanted.Coded). x .buffer) (e ∙ sym f) ∙ told-buffer r′ out′,
+)
 
-  pub encode : Tells (wanted.encodeAnswer plate name lent) r buffer → Tells (wanted.encodeAnswer plate name lent) r′ buffer′ → (r ≡ r′) × (buffer ≡ buffer′)
-  encode e f = one (wanted.encodeAnswer plate name lent) r r′ buffer buffer′ e f
+module _ (plate name lent : List ℕ) (r r′ : Coded) (out out′ : List ℕ) where
+  pub list : told r out ≡ wanted.listAnswer plate name lent → told r′ out′ ≡ wanted.listAnswer plate name lent → (r ≡ r′) × (out ≡ out′)
+  list e f = one (wanted.listAnswer plate name lent) r r′ out out′ e f
+
+  pub encode : told r out ≡ wanted.encodeAnswer plate name lent → told r′ out′ ≡ wanted.encodeAnswer plate name lent → (r ≡ r′) × (out ≡ out′)
+  encode e f = one (wanted.encodeAnswer plate name lent) r r′ out out′ e f
+
+  pub code-accepted : (most : ℕ) → told r out ≡ wanted.codedBy (listedTo most) (plateAt (edition1 .width) plate) name lent
+      → told r′ out′ ≡ wanted.codedBy (listedTo most) (plateAt (edition1 .width) plate) name lent → (r ≡ r′) × (out ≡ out′)
+  code-accepted most e f = one (wanted.codedBy (listedTo most) (plateAt (edition1 .width) plate) name lent) r r′ out out′ e f

@@ -6,13 +6,12 @@ use mathlib.Core.Option.{Option, none, some}
 use mathlib.Core.List.{List, [], _∷_, _++_, map}
 use lib.Dec.{ltb, leb}
 use lib.ListN.{length, drop}
-use Rattle.laws.specs.Lists.{every}
-use Rattle.chars.specs.Utf8.{isText, charsOf}
-use Rattle.plate.specs.Plate.{Plate}
+use Rattle.plate.specs.Plate.{Rule, Plate}
 use Rattle.plate.specs.Read.{readPlate}
 use Rattle.branches.specs.Branches.{Use, start, over, codes}
 use Rattle.branches.specs.Choice.{firstOnly}
-use Rattle.coder.specs.Name.{allowed, prepared}
+use Rattle.coder.specs.Name.{Named, named}
+use Rattle.coder.specs.Name.Named.{Refused, Chars}
 use Rattle.coder.specs.Walk.{uses}
 
 pub record Coded : Type 0 where
@@ -20,8 +19,9 @@ pub record Coded : Type 0 where
   pub count : ℕ
   pub buffer : List ℕ
 
-abbrev pub refusal : ℕ → List ℕ → Coded
-refusal number lent = record { number = number; count = 0; buffer = lent }
+-- a refusal by its number
+abbrev pub noCodes : ℕ → List ℕ → Coded
+noCodes number lent = record { number = number; count = 0; buffer = lent }
 
 -- "Codes are joined by `|`"
 unfoldable pub joined : List (List ℕ) → List ℕ
@@ -41,24 +41,25 @@ room lent = smaller 64 ((length lent + 1) / 7)
 
 -- "Refusal 12 for list: the branch list, at the start or after some step, is longer than room."
 abbrev pub listed : List Use → List ℕ → Coded
-listed us lent = cond (over (room lent) us start) (refusal 12 lent) (listing (codes us) lent)
+listed us lent = cond (over (room lent) us start) (noCodes 12 lent) (listing (codes us) lent)
 
 -- "Encode takes the first alternative only." 12: "For encode: the buffer is under 6 bytes."
 abbrev pub encoded : List Use → List ℕ → Coded
-encoded us lent = cond (ltb (length lent) 6) (refusal 12 lent) (listing (codes (map firstOnly us)) lent)
+encoded us lent = cond (ltb (length lent) 6) (noCodes 12 lent) (listing (codes (map firstOnly us)) lent)
 
--- 1: "name over 256 bytes"; 2: "not UTF-8"; 11: "name holds a character neither White_Space nor below U+0180"
-abbrev pub named : (List Use → List ℕ → Coded) → Plate → List ℕ → List ℕ → Coded
-named call p name lent =
-    cond (ltb 256 (length name)) (refusal 1 lent)
-    (cond (isText name)
-    (cond (every allowed (charsOf name)) (call (uses (p .rules) (prepared p name)) lent) (refusal 11 lent))
-    (refusal 2 lent))
+-- a name that is refused, or the call for the uses along its characters
+abbrev pub answered : (List Use → List ℕ → Coded) → List Rule → Named → List ℕ → Coded
+answered call rs (Refused number) lent = noCodes number lent
+answered call rs (Chars cs) lent = call (uses rs cs) lent
 
--- 10: "bytes that are not a plate"
+-- by a plate
+abbrev pub codedBy : (List Use → List ℕ → Coded) → Plate → List ℕ → List ℕ → Coded
+codedBy call p name lent = answered call (p .rules) (named p name) lent
+
+-- 10: "bytes that are not a plate", first of all
 abbrev pub plated : (List Use → List ℕ → Coded) → Option Plate → List ℕ → List ℕ → Coded
-plated call none name lent = refusal 10 lent
-plated call (some p) name lent = named call p name lent
+plated call none name lent = noCodes 10 lent
+plated call (some p) name lent = codedBy call p name lent
 
 unfoldable pub listAnswer : List ℕ → List ℕ → List ℕ → Coded
 listAnswer plate name lent = plated listed (readPlate plate) name lent

@@ -1,43 +1,44 @@
--- What the code of this crate holds and answers, in the words of the definitions: a name prepared, what the search finds, the walk. Assumes nothing.
-use Prim.Native.Nat.{ℕ, _-_, _<_, _≤_}
+-- What the code of this crate holds and answers, in the words of the definitions: a name prepared, what the search finds, the next use, all branches.
+-- Assumes nothing.
+use Prim.Native.Nat.{ℕ, _<_, _≤_}
 use mathlib.Core.Path.{_≡_}
 use mathlib.Core.Bool.{Bool, true, false, cond}
 use mathlib.Core.Option.{Option, none, some}
-use mathlib.Core.List.{List, [], _∷_, _++_, map}
-use lib.Dec.{ltb}
-use lib.ListN.{length, take, replicate}
-use Rattle.laws.specs.Lists.{every}
-use Rattle.chars.specs.Utf8.{isText, charsOf}
+use mathlib.Core.List.{List, [], _∷_, map}
+use lib.ListN.{length, take, drop}
 use Rattle.plate.specs.Plate.{Rule, Plate}
 use Rattle.plate.specs.Read.{ruleAt}
 use Rattle.plate.specs.Stands.{Here}
+use Rattle.plate.specs.Field.{FieldOk}
 use Rattle.branches.specs.Branches.{Use, start}
 use Rattle.branches.specs.Room.{outcome}
-use Rattle.branches.specs.Held.{BranchesOk, branchesOf}
+use Rattle.branches.specs.Held.{useOf, BranchesOk, branchesOf}
 use Rattle.branches.specs.declared.Stepped.{Stepped}
-use Rattle.coder.specs.Name.{allowed, prepared}
-use Rattle.coder.specs.Walk.{letters}
+use Rattle.coder.specs.Name.{Named, mostName, named}
+use Rattle.coder.specs.Name.Named.{Refused, Chars}
+use Rattle.coder.specs.Walk.{letters, walk}
 use Rattle.coder.specs.Search.{Hit, hitFrom}
 use Rattle.coder.specs.Search.Hit.{Taken, None}
 use Rattle.coder.specs.declared.Found.{Found}
 use Rattle.coder.specs.declared.Found.the-variants.{At, Nothing}
-use Rattle.coder.specs.declared.Fault.{Fault}
+use Rattle.coder.specs.declared.NameFault.{NameFault}
+use Rattle.coder.specs.declared.NameFault.the-variants as fault
 use Rattle.coder.specs.declared.Prepared.{Prepared}
-use Rattle.coder.specs.declared.Fault.the-variants as Fault
+use Rattle.coder.specs.declared.NextUse.{NextUse}
 
 -- ---- a name, prepared
 
--- characters as they are held; the fill is 0
-abbrev pub heldChars : List ℕ → Fault → Prepared
-heldChars cs fault = record { chars = cs ++ replicate (256 - length cs) 0; count = length cs; fault = fault }
+-- 01's number for each fault; without one, the characters
+abbrev pub namedBy : NameFault → List ℕ → Named
+namedBy fault.None cs = Chars cs
+namedBy fault.TooLong cs = Refused 1
+namedBy fault.NotUtf8 cs = Refused 2
+namedBy fault.NotAllowed cs = Refused 11
 
--- 1, 2 and 11, in this order; or the characters
-abbrev pub preparedName : Plate → List ℕ → Prepared
-preparedName p name =
-    cond (ltb 256 (length name)) (heldChars [] Fault.TooLong)
-    (cond (isText name)
-    (cond (every allowed (charsOf name)) (heldChars (prepared p name) Fault.None) (heldChars [] Fault.NotAllowed))
-    (heldChars [] Fault.NotUtf8))
+pub record PreparedIs (p : Plate) (name : List ℕ) (r : Prepared) : Type 0 where
+  pub is : namedBy (r .fault) (take (r .count) (r .chars)) ≡ named p name
+  pub few : r .count ≤ mostName
+  pub long : length (r .chars) ≡ mostName
 
 -- ---- the search
 
@@ -46,9 +47,16 @@ unfoldable pub hitAt : Bool → List Rule → List ℕ → Hit
 hitAt known rs [] = None known
 hitAt known rs (c ∷ cs) = hitFrom known rs c cs
 
--- What is answered of what is to be found: the rule at the place, and the number of its characters; or that there is none, and whether there is a group.
+-- The rule at the place is taken; n is the number of its characters.
+pub record FoundAt (s : List ℕ) (h : Hit) (place n : ℕ) : Type 0 where
+  pub taken : h ≡ Taken (ruleAt s place)
+  pub here : Here s place
+  pub counted : n ≡ length (letters (ruleAt s place))
+  pub some : 0 < n
+  pub few : n ≤ 16
+
 abbrev pub FoundIs : List ℕ → Hit → Found → Type 0
-FoundIs s h (At place n) = (h ≡ Taken (ruleAt s place)) × Here s place × (n ≡ length (letters (ruleAt s place))) × (0 < n) × (n ≤ 16)
+FoundIs s h (At place n) = FoundAt s h place n
 FoundIs s h (Nothing known) = h ≡ None known
 
 -- ---- the walk
@@ -69,6 +77,19 @@ cutTo most u = record { alternatives = take most (u .alternatives); anyway = u .
 abbrev pub cutAll : ℕ → List Use → List Use
 cutAll most us = map (cutTo most) us
 
--- What the walk answers: all branches, or that at the start or after some step they were more than room.
-abbrev pub Walked : ℕ → List Use → Stepped → Type 0
-Walked room us r = BranchesOk (r .next) × (outcome room us start ≡ cond (r .over) none (some (branchesOf (r .next))))
+-- the uses from a place of a name on, cut so
+unfoldable pub usesFrom : List Rule → List ℕ → ℕ → Bool → ℕ → ℕ → List Use
+usesFrom rs name most started before at = cutAll most (walk rs (beforeOf started before) 0 (drop at name))
+
+-- The next use is the first of them, and the others are those from the place behind it on; or there is none.
+pub record NextIs (rs : List Rule) (name : List ℕ) (most : ℕ) (started : Bool) (before at : ℕ) (r : NextUse) : Type 0 where
+  pub ok : FieldOk (r .field)
+  pub is : usesFrom rs name most started before at ≡ cond (r .found) (useOf (r .field) (r .anyway) ∷ usesFrom rs name most true (r .before) (r .at)) []
+  pub within : r .found ≡ true → at < length name
+  pub behind : r .found ≡ true → at < r .at
+
+-- ---- the branches
+
+-- all branches along a name, or that at the start or after some step they were more than room
+abbrev pub RunIs : ℕ → List Use → Stepped → Type 0
+RunIs room us r = BranchesOk (r .next) × (outcome room us start ≡ cond (r .over) none (some (branchesOf (r .next))))

@@ -4,6 +4,6 @@ pub mod Search
 pub mod Held
 pub mod Wider
 pub mod Answer
-pub mod Numbers
+pub mod Outcome
 pub mod Given
 pub mod Worked

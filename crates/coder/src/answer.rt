@@ -6,13 +6,12 @@ ghost use Rattle.plate.specs.Plate.{edition1};
 ghost use Rattle.plate.specs.Read.{plateAt, acceptedIn};
 ghost use Rattle.plate.specs.Noted.{Noted};
 ghost use Rattle.coder.specs.Walk.{uses};
-ghost use Rattle.coder.specs.Answer.{smaller, listed, listAnswer, encodeAnswer};
-ghost use Rattle.coder.specs.Held.{cutAll};
-ghost use Rattle.coder.specs.Numbers.{Tells, codeAnswer};
+ghost use Rattle.coder.specs.Answer.{smaller, codedBy, listAnswer, encodeAnswer};
+ghost use Rattle.coder.specs.Outcome.{told, listedTo, codeAnswer};
 use super::Coded;
-use super::Fault;
+use super::NameFault;
 use super::name::prepare;
-use super::walk::walk;
+use super::run::run;
 use super::write::write;
 use chars::lower::lowers;
 use plate::accept::accept_noting;
@@ -36,57 +35,66 @@ fn code_chars(
     most: usize,
 ) -> Coded
     requires { ⌜ (acceptedIn edition1 (now plate) ≡ true) × Noted (edition1 .width) (now plate) (now places) (now groups) ⌝ }
-    ensures { λ r. ⌜ Tells (listed (cutAll most (uses (plateAt (edition1 .width) (now (plate .entry)) .rules) (now (chars .entry)))) (now (out .entry))) r (now (out .exit)) ⌝ }
+    ensures { λ r. ⌜ told r (now (out .exit)) ≡ listedTo most (uses (plateAt (edition1 .width) (now (plate .entry)) .rules) (now (chars .entry))) (now (out .entry)) ⌝ }
 {
-    let walked = walk(plate, places, groups, chars, most, room_of(out.len()));
-    if walked.over {
+    let ran = run(plate, places, groups, chars, most, room_of(out.len()));
+    if ran.over {
         return Coded::RoomTooSmall;
     }
-    let bs = walked.next;
+    let bs = ran.next;
     write(out, bs);
     Coded::Codes(bs.count)
 }
 
+// The codes of a name by a plate that is accepted and noted, with the first `most` alternatives of each field.
+pub fn code_accepted(
+    plate: &[u8],
+    places: &[u32],
+    groups: &[u32],
+    name: &[u8],
+    out: &mut [u8],
+    most: usize,
+) -> Coded
+    requires { ⌜ (acceptedIn edition1 (now plate) ≡ true) × Noted (edition1 .width) (now plate) (now places) (now groups) ⌝ }
+    ensures { λ r. ⌜ told r (now (out .exit)) ≡ codedBy (listedTo most) (plateAt (edition1 .width) (now (plate .entry))) (now (name .entry)) (now (out .entry)) ⌝ }
+{
+    let t = lowers();
+    let p = prepare(plate, name, &t);
+    let fault = p.fault;
+    match fault {
+        NameFault::TooLong => Coded::NameTooLong,
+        NameFault::NotUtf8 => Coded::NotUtf8,
+        NameFault::NotAllowed => Coded::CharacterNotAllowed,
+        NameFault::None => {
+            let chars = p.chars;
+            let n = p.count;
+            code_chars(plate, places, groups, &chars[..n], out, most)
+        }
+    }
+}
+
 // The codes of a name, with the first `most` alternatives of each field.
 fn code_name(plate: &[u8], name: &[u8], out: &mut [u8], most: usize) -> Coded
-    ensures { λ r. ⌜ Tells (codeAnswer most (now (plate .entry)) (now (name .entry)) (now (out .entry))) r (now (out .exit)) ⌝ }
+    ensures { λ r. ⌜ told r (now (out .exit)) ≡ codeAnswer most (now (plate .entry)) (now (name .entry)) (now (out .entry)) ⌝ }
 {
     let mut places = [0u32; 512];
     let mut groups = [0u32; 384];
     if !accept_noting(plate, &mut places, &mut groups) {
         return Coded::NotAPlate;
     }
-    let t = lowers();
-    let p = prepare(plate, name, &t);
-    let fault = p.fault;
-    match fault {
-        Fault::TooLong => {
-            return Coded::NameTooLong;
-        }
-        Fault::NotUtf8 => {
-            return Coded::NotUtf8;
-        }
-        Fault::NotAllowed => {
-            return Coded::CharacterNotAllowed;
-        }
-        Fault::None => {
-            let chars = p.chars;
-            let n = p.count;
-            return code_chars(plate, &places, &groups, &chars[..n], out, most);
-        }
-    }
+    code_accepted(plate, &places, &groups, name, out, most)
 }
 
 // All codes of a name.
 pub fn list(plate: &[u8], name: &[u8], out: &mut [u8]) -> Coded
-    ensures { λ r. ⌜ Tells (listAnswer (now (plate .entry)) (now (name .entry)) (now (out .entry))) r (now (out .exit)) ⌝ }
+    ensures { λ r. ⌜ told r (now (out .exit)) ≡ listAnswer (now (plate .entry)) (now (name .entry)) (now (out .entry)) ⌝ }
 {
     code_name(plate, name, out, 8)
 }
 
 // One code: "Encode takes the first alternative only."
 pub fn encode(plate: &[u8], name: &[u8], out: &mut [u8]) -> Coded
-    ensures { λ r. ⌜ Tells (encodeAnswer (now (plate .entry)) (now (name .entry)) (now (out .entry))) r (now (out .exit)) ⌝ }
+    ensures { λ r. ⌜ told r (now (out .exit)) ≡ encodeAnswer (now (plate .entry)) (now (name .entry)) (now (out .entry)) ⌝ }
 {
     code_name(plate, name, out, 1)
 }

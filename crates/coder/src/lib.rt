@@ -1,8 +1,11 @@
-// The coder: the characters of a name, the walk along them, the codes that are written, and the answers. 01, "From name to codes".
+// The coder: the characters of a name, the uses of rules along them, their branches, the codes that are written, and the answers. 01, "From name to codes".
 mod name; // name.rt: from a name's bytes to the characters that are coded
-mod walk; // walk.rt: from the characters to branches
+mod walk; // walk.rt: from the characters to the uses of rules
+mod run; // run.rt: from the uses to branches
 mod write; // write.rt: from branches to the bytes of their codes
 pub mod answer; // answer.rt: encode and list
+
+use plate::Field;
 
 // The rule that the search takes, by its place and its pattern's length in characters; or nothing, and whether the character has a group.
 enum Found {
@@ -11,7 +14,7 @@ enum Found {
 }
 
 // Why a name is not coded.
-enum Fault {
+enum NameFault {
     None,
     TooLong,
     NotUtf8,
@@ -22,7 +25,17 @@ enum Fault {
 struct Prepared {
     chars: [u32; 256],
     count: usize,
-    fault: Fault,
+    fault: NameFault,
+}
+
+// The next use along a name: the alternatives of the field taken and whether they are appended anyway, the place behind its pattern, and its first character,
+// which is the character before for what follows. Or that there is none.
+struct NextUse {
+    field: Field,
+    anyway: bool,
+    at: usize,
+    before: u32,
+    found: bool,
 }
 
 // What list and encode answer: the number of codes written, or why there are none.

@@ -1,15 +1,14 @@
 // From a name's bytes to the characters that are coded.
 ghost use mathlib.Core.Path.{_≡_};
 ghost use mathlib.Core.Bool.{true};
-ghost use mathlib.Core.List.{[]};
-ghost use Prim.Native.Nat.{_≤_};
+ghost use lib.ListN.{replicate};
 ghost use Rattle.chars.specs.Table.{table};
 ghost use Rattle.plate.specs.Plate.{edition1};
 ghost use Rattle.plate.specs.Read.{plateAt, acceptedIn};
 ghost use Rattle.coder.specs.Name.{coded};
-ghost use Rattle.coder.specs.Held.{heldChars, preparedName};
-ghost use Rattle.coder.specs.declared.Fault.the-variants.{None};
-use super::Fault;
+ghost use Rattle.coder.specs.Held.{PreparedIs};
+ghost use Rattle.coder.specs.declared.NameFault.the-variants.{None};
+use super::NameFault;
 use super::Prepared;
 use chars::Char;
 use chars::letters::is_space;
@@ -30,8 +29,8 @@ fn coded_char(plate: &[u8], t: &[u16; 384], c: u32) -> u32
 }
 
 // A name with a fault: no characters.
-fn refused(fault: Fault) -> Prepared
-    ensures { λ r. ⌜ r ≡ heldChars [] fault ⌝ }
+fn no_chars(fault: NameFault) -> Prepared
+    ensures { λ r. ⌜ r ≡ record { chars = replicate 256 0; count = 0; fault = fault } ⌝ }
 {
     Prepared {
         chars: [0; 256],
@@ -41,23 +40,23 @@ fn refused(fault: Fault) -> Prepared
 }
 
 // A name without one.
-fn held(chars: [u32; 256], count: usize) -> Prepared
+fn with_chars(chars: [u32; 256], count: usize) -> Prepared
     ensures { λ r. ⌜ r ≡ record { chars = chars; count = count; fault = None } ⌝ }
 {
     Prepared {
         chars,
         count,
-        fault: Fault::None,
+        fault: NameFault::None,
     }
 }
 
 // The characters of a name, in one pass. A sequence that is not UTF-8 decides, though a character that is not allowed stood before it: 2 comes before 11.
 pub(crate) fn prepare(plate: &[u8], name: &[u8], t: &[u16; 384]) -> Prepared
     requires { ⌜ (acceptedIn edition1 (now plate) ≡ true) × (now t ≡ table) ⌝ }
-    ensures { λ r. ⌜ (r ≡ preparedName (plateAt (edition1 .width) (now (plate .entry))) (now (name .entry))) × (r .count ≤ 256) ⌝ }
+    ensures { λ r. ⌜ PreparedIs (plateAt (edition1 .width) (now (plate .entry))) (now (name .entry)) r ⌝ }
 {
     if 256 < name.len() {
-        return refused(Fault::TooLong);
+        return no_chars(NameFault::TooLong);
     }
     let mut chars = [0; 256];
     let mut count: usize = 0;
@@ -78,13 +77,13 @@ pub(crate) fn prepare(plate: &[u8], name: &[u8], t: &[u16; 384]) -> Prepared
                 count += 1;
             }
             Char::Bad => {
-                return refused(Fault::NotUtf8);
+                return no_chars(NameFault::NotUtf8);
             }
             Char::End => {
                 if foreign {
-                    return refused(Fault::NotAllowed);
+                    return no_chars(NameFault::NotAllowed);
                 }
-                return held(chars, count);
+                return with_chars(chars, count);
             }
         }
     }

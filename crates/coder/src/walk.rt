@@ -1,18 +1,21 @@
-// From the characters of a name to branches: at each the rule taken, its field, and the step.
+// From the characters of a name to the uses of rules: at each character the rule taken, and its field.
 ghost use mathlib.Core.Path.{_≡_};
 ghost use mathlib.Core.Bool.{true, false};
+ghost use mathlib.Core.List.{[]};
 ghost use Prim.Native.Nat.{_<_, _≤_};
 ghost use lib.ListN.{length, drop};
 ghost use Rattle.plate.specs.Plate.{edition1};
 ghost use Rattle.plate.specs.Read.{plateAt, acceptedIn};
 ghost use Rattle.plate.specs.Noted.{Noted};
-ghost use Rattle.coder.specs.Walk.{vowelFollows, forced, uses};
-ghost use Rattle.coder.specs.Held.{hitAt, FoundIs, beforeOf, whichField, cutAll, Walked};
+ghost use Rattle.plate.specs.Stands.{heldField};
+ghost use Rattle.coder.specs.Walk.{vowelFollows, forced};
+ghost use Rattle.coder.specs.Held.{hitAt, FoundIs, beforeOf, whichField, NextIs};
 use super::Found;
-use branches::Branches;
-use branches::Stepped;
+use super::NextUse;
 use chars::Next;
 use chars::letters::is_vowel;
+use plate::Alternative;
+use plate::Field;
 use plate::note::group_of;
 use plate::read;
 
@@ -86,32 +89,44 @@ fn is_forced(started: bool, before: u32, c: u32) -> bool
     false
 }
 
-// The walk's answer, and whether it ended because there was no room.
-fn walked(next: Branches, over: bool) -> Stepped
-    ensures { λ r. ⌜ r ≡ record { next = next; over = over } ⌝ }
+// No use: no alternatives.
+fn no_use(at: usize) -> NextUse
+    ensures { λ r. ⌜ r ≡ record { field = heldField []; anyway = false; at = at; before = 0; found = false } ⌝ }
 {
-    Stepped { next, over }
+    let empty = Alternative {
+        digits: [b'0'; 6],
+        count: 0,
+    };
+    let field = Field {
+        alternatives: [empty; 8],
+        count: 0,
+    };
+    NextUse {
+        field,
+        anyway: false,
+        at,
+        before: 0,
+        found: false,
+    }
 }
 
-// The branches along a name; or that they are more than there is room for, "at the start or after some step".
-pub(crate) fn walk(
+// The next use along a name, from a place on: "No group: go on, nothing changes. [..] If the group has no match, one character passes."
+pub(crate) fn next_use(
     plate: &[u8],
     places: &[u32],
     groups: &[u32],
     name: &[u32],
     most: usize,
-    room: usize,
-) -> Stepped
-    requires { ⌜ (acceptedIn edition1 (now plate) ≡ true) × Noted (edition1 .width) (now plate) (now places) (now groups) × (room ≤ 64) ⌝ }
-    ensures { λ r. ⌜ Walked room (cutAll most (uses (plateAt (edition1 .width) (now (plate .entry)) .rules) (now (name .entry)))) r ⌝ }
+    begun: bool,
+    last: u32,
+    from: usize,
+) -> NextUse
+    requires { ⌜ (acceptedIn edition1 (now plate) ≡ true) × Noted (edition1 .width) (now plate) (now places) (now groups) ⌝ }
+    ensures { λ r. ⌜ NextIs (plateAt (edition1 .width) (now (plate .entry)) .rules) (now (name .entry)) most begun last from r ⌝ }
 {
-    let mut bs = branches::start();
-    if room == 0 {
-        return walked(bs, true);
-    }
-    let mut started = false;
-    let mut before: u32 = 0;
-    let mut at: usize = 0;
+    let mut started = begun;
+    let mut before = last;
+    let mut at = from;
     while at < name.len() {
         let c = name[at];
         match search(plate, places, groups, &name[at..]) {
@@ -123,18 +138,18 @@ pub(crate) fn walk(
                 }
             }
             Found::At(place, n) => {
-                at += n;
-                let which = which_field(started, vowel_at(name, at));
-                let f = read::field_at(plate, place, which, most);
-                let s = branches::step(bs, f, is_forced(started, before, c), room);
-                if s.over {
-                    return s;
-                }
-                bs = s.next;
-                started = true;
-                before = c;
+                let behind = at + n;
+                let which = which_field(started, vowel_at(name, behind));
+                let field = read::field_at(plate, place, which, most);
+                return NextUse {
+                    field,
+                    anyway: is_forced(started, before, c),
+                    at: behind,
+                    before: c,
+                    found: true,
+                };
             }
         }
     }
-    walked(bs, false)
+    no_use(at)
 }

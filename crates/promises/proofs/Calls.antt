@@ -14,10 +14,9 @@ use Rattle.plate.specs.Read.{readPlate}
 use Rattle.plate.proofs.Packed.{Bytes}
 use Rattle.builder.specs.Build.{Built, buildAnswer}
 use Rattle.coder.specs.Answer.{Coded, listAnswer, encodeAnswer}
-use Rattle.zengilvar.specs.Numbers.{BuiltIs, CodedIs}
+use Rattle.zengilvar.specs.Numbers.{built, coded}
 use Rattle.zengilvar.specs.declared.DmBuilt.{DmBuilt}
 use Rattle.zengilvar.specs.declared.DmCoded.{DmCoded}
-use Rattle.promises.specs.Calls.{built, coded}
 use Rattle.promises.specs.Said.{plateSaid, IsPlate}
 use Rattle.promises.specs.Demands.{BuildRefuses, BuildGives, ListRefuses, ListGives, EncodeRefuses, EncodeGives, ListsChoices, EncodesFirst, PlatesKeep, TextsKeep, GivenAgain}
 use Rattle.promises.proofs.CodedWhen.{plate-read}
@@ -31,43 +30,37 @@ pub bytes-of : (l : List ℕ) → ((k : ℕ) → getD l k 0 < 256) → Bytes l
 bytes-of [] h = tt
 bytes-of (b ∷ l) h = (h 0, bytes-of l (λ k. h (suc k)))
 
-built-is : (a : Built) (r : DmBuilt) (out : List ℕ) → BuiltIs a r out → a ≡ built r out
-built-is a r out t = sym (λ i. record { number = t .0 i; line = t .1 i; length = t .2 i; buffer = t .3 i })
-
-coded-is : (a : Coded) (r : DmCoded) (out : List ℕ) → CodedIs a r out → a ≡ coded r out
-coded-is a r out t = sym (λ i. record { number = t .0 i; count = t .1 i; buffer = t .2 i })
-
-pub builds : (text : List ℕ) (flag : Bool) (lent : List ℕ) → Bytes text → (r : DmBuilt) (out : List ℕ) → BuiltIs (buildAnswer text flag lent) r out
+pub builds : (text : List ℕ) (flag : Bool) (lent : List ℕ) → Bytes text → (r : DmBuilt) (out : List ℕ) → built r out ≡ buildAnswer text flag lent
     → BuildRefuses text flag lent (built r out) × BuildGives text flag lent (built r out)
 builds text flag lent bytes r out t =
-    subst (λ (a : Built). BuildRefuses text flag lent a × BuildGives text flag lent a) (built-is (buildAnswer text flag lent) r out t)
+    subst (λ (a : Built). BuildRefuses text flag lent a × BuildGives text flag lent a) (sym t)
     (build-refuses text flag lent, build-gives text flag lent bytes)
 
 module _ (plate name lent : List ℕ) (bytes : Bytes plate) (r : DmCoded) (out : List ℕ) where
-  pub lists : CodedIs (listAnswer plate name lent) r out
+  pub lists : coded r out ≡ listAnswer plate name lent
       → ListRefuses plate name lent (coded r out) × (ListGives plate name lent (coded r out) × ListsChoices plate name (coded r out))
   lists t =
-      subst (λ (a : Coded). ListRefuses plate name lent a × (ListGives plate name lent a × ListsChoices plate name a)) (coded-is (listAnswer plate name lent) r out t)
+      subst (λ (a : Coded). ListRefuses plate name lent a × (ListGives plate name lent a × ListsChoices plate name a)) (sym t)
       (list-refuses plate name lent bytes, (list-gives plate name lent bytes, lists-choices plate name lent bytes))
 
-  pub encodes : CodedIs (encodeAnswer plate name lent) r out → EncodeRefuses plate name lent (coded r out) × EncodeGives plate name lent (coded r out)
+  pub encodes : coded r out ≡ encodeAnswer plate name lent → EncodeRefuses plate name lent (coded r out) × EncodeGives plate name lent (coded r out)
   encodes t =
-      subst (λ (a : Coded). EncodeRefuses plate name lent a × EncodeGives plate name lent a) (coded-is (encodeAnswer plate name lent) r out t)
+      subst (λ (a : Coded). EncodeRefuses plate name lent a × EncodeGives plate name lent a) (sym t)
       (encode-refuses plate name lent bytes, encode-gives plate name lent bytes)
 
-  module _ (other : List ℕ) (r′ : DmCoded) (out′ : List ℕ) (t : CodedIs (listAnswer plate name lent) r out) where
+  module _ (other : List ℕ) (r′ : DmCoded) (out′ : List ℕ) (t : coded r out ≡ listAnswer plate name lent) where
     -- What holds of both answers of the definitions holds of both calls.
-    of-both : (P : Coded → Coded → Type 0) (b : Coded) → CodedIs b r′ out′ → P (listAnswer plate name lent) b → P (coded r out) (coded r′ out′)
+    of-both : (P : Coded → Coded → Type 0) (b : Coded) → coded r′ out′ ≡ b → P (listAnswer plate name lent) b → P (coded r out) (coded r′ out′)
     of-both P b u h =
-        subst (P (coded r out)) (coded-is b r′ out′ u) (subst (λ (a : Coded). P a b) (coded-is (listAnswer plate name lent) r out t) h)
+        subst (P (coded r out)) (sym u) (subst (λ (a : Coded). P a b) (sym t) h)
 
-    pub firsts : CodedIs (encodeAnswer plate name other) r′ out′ → EncodesFirst (coded r out) other (coded r′ out′)
+    pub firsts : coded r′ out′ ≡ encodeAnswer plate name other → EncodesFirst (coded r out) other (coded r′ out′)
     firsts u = of-both (λ a b. EncodesFirst a other b) (encodeAnswer plate name other) u (encodes-first plate name lent bytes other)
 
-    pub again : CodedIs (listAnswer plate name other) r′ out′ → GivenAgain lent other (coded r out) (coded r′ out′)
+    pub again : coded r′ out′ ≡ listAnswer plate name other → GivenAgain lent other (coded r out) (coded r′ out′)
     again u = of-both (λ a b. GivenAgain lent other a b) (listAnswer plate name other) u (given-again plate name lent other bytes)
 
-    pub keeps : (wide : List ℕ) → Bytes wide → CodedIs (listAnswer wide name other) r′ out′ → PlatesKeep plate wide (coded r out) (coded r′ out′)
+    pub keeps : (wide : List ℕ) → Bytes wide → coded r′ out′ ≡ listAnswer wide name other → PlatesKeep plate wide (coded r out) (coded r′ out′)
     keeps wide bytes′ u = of-both (λ a b. PlatesKeep plate wide a b) (listAnswer wide name other) u (plates-keep plate wide name lent other bytes bytes′)
 
 -- ---- 3c from texts: the plates that two builds wrote
@@ -89,7 +82,7 @@ no-plate p w = false≢true (ap is (sym empty-none ∙ plate-read [] p w))
     is (some q) = true
     is none = false
 
-module _ (text : List ℕ) (flag : Bool) (lent : List ℕ) (bytes : Bytes text) (r : DmBuilt) (out : List ℕ) (t : BuiltIs (buildAnswer text flag lent) r out) where
+module _ (text : List ℕ) (flag : Bool) (lent : List ℕ) (bytes : Bytes text) (r : DmBuilt) (out : List ℕ) (t : built r out ≡ buildAnswer text flag lent) where
   -- The length is within the buffer.
   pub within : r .length ≤ length out
   within = go (r .number) refl
@@ -123,9 +116,9 @@ module _ (text : List ℕ) (flag : Bool) (lent : List ℕ) (bytes : Bytes text) 
           let k = b .0 .2 (λ z. omega arith) .0 in absurd (no-plate p (w .0, ap (λ (m : ℕ). take m out) (sym k) ∙ w .1))
 
 pub texts : (text wide : List ℕ) (flag : Bool) (lent lent′ : List ℕ) → Bytes text → Bytes wide
-    → (r r′ : DmBuilt) (out out′ : List ℕ) → Bytes out → Bytes out′ → BuiltIs (buildAnswer text flag lent) r out → BuiltIs (buildAnswer wide flag lent′) r′ out′
+    → (r r′ : DmBuilt) (out out′ : List ℕ) → Bytes out → Bytes out′ → built r out ≡ buildAnswer text flag lent → built r′ out′ ≡ buildAnswer wide flag lent′
     → (name room room′ : List ℕ) (a b : DmCoded) (listed listed′ : List ℕ)
-    → CodedIs (listAnswer (take (r .length) out) name room) a listed → CodedIs (listAnswer (take (r′ .length) out′) name room′) b listed′
+    → coded a listed ≡ listAnswer (take (r .length) out) name room → coded b listed′ ≡ listAnswer (take (r′ .length) out′) name room′
     → TextsKeep text wide (coded a listed) (coded b listed′)
 texts text wide flag lent lent′ bytes bytes′ r r′ out out′ written written′ t t′ name room room′ a b listed listed′ u u′ w n n′ =
     let plate = take (r .length) out in

@@ -14,16 +14,18 @@ use Rattle.laws.proofs.Tests.{or-true, neither}
 use Rattle.laws.proofs.Members.{in-every}
 use Rattle.chars.specs.Utf8.{isText, charsOf}
 use Rattle.chars.specs.Letters.{white}
-use Rattle.plate.specs.Plate.{Plate}
+use Rattle.plate.specs.Plate.{Rule, Plate}
 use Rattle.plate.specs.Read.{readPlate}
 use Rattle.plate.proofs.Packed.{Bytes}
 use Rattle.plate.proofs.Round.{edition1-reads, edition1-exact}
 use Rattle.branches.specs.Branches.{Branch, Use, start, step, run, over, codes}
 use Rattle.branches.specs.Choice.{firstOnly}
-use Rattle.coder.specs.Name.{allowed}
+use Rattle.coder.specs.Name.{allowed, prepared}
+use Rattle.coder.specs.Walk.{uses}
 use Rattle.coder.specs.Answer as code
-use Rattle.coder.specs.Answer.{room, named, plated, listAnswer, encodeAnswer}
+use Rattle.coder.specs.Answer.{room, codedBy, plated, listAnswer, encodeAnswer}
 use Rattle.coder.specs.Given.{usesIn}
+use Rattle.coder.proofs.Answers.{judged}
 use Rattle.coder.proofs.Demands.{some-inj}
 use Rattle.promises.specs.Said.{IsPlate}
 use Rattle.promises.specs.When.{Check, NotAPlate, Strange, Overfull, NameNumber, ListNumber, EncodeNumber}
@@ -62,19 +64,19 @@ not-strange cs e s = go (or-true (white (s .0)) (ltb (s .0) 0x180) (in-every all
     go (inr h) = let a = ltb-true (s .0) 0x180 h in let b = s .3 in omega arith
 
 -- The checks of a name in front of a call whose own number meets its own check.
-named-number : (long text fine : Bool) (x : code.Coded) (lent : List ℕ) (w₁ w₂ w₁₁ w₁₂ : Type 0)
+named-number : (call : List Use → List ℕ → code.Coded) (rs : List Rule) (cs lent : List ℕ) (long text fine : Bool) (w₁ w₂ w₁₁ w₁₂ : Type 0)
     → (long ≡ true → w₁) → (long ≡ false → w₁ → ⊥) → (text ≡ false → w₂) → (text ≡ true → w₂ → ⊥) → (fine ≡ false → w₁₁) → (fine ≡ true → w₁₁ → ⊥)
-    → Check (x .number) 12 w₁₂ (x .number ≡ 0)
-    → (let n = cond long (code.refusal 1 lent) (cond text (cond fine x (code.refusal 11 lent)) (code.refusal 2 lent)) .number in Check n 1 w₁ (Check n 2 w₂ (Check n 11 w₁₁ (Check n 12 w₁₂ (n ≡ 0)))))
-named-number true text fine x lent w₁ w₂ w₁₁ w₁₂ a a′ b b′ c c′ last = inl (a refl, refl)
-named-number false false fine x lent w₁ w₂ w₁₁ w₁₂ a a′ b b′ c c′ last = inr (a′ refl, inl (b refl, refl))
-named-number false true false x lent w₁ w₂ w₁₁ w₁₂ a a′ b b′ c c′ last = inr (a′ refl, inr (b′ refl, inl (c refl, refl)))
-named-number false true true x lent w₁ w₂ w₁₁ w₁₂ a a′ b b′ c c′ last = inr (a′ refl, inr (b′ refl, inr (c′ refl, last)))
+    → Check (call (uses rs cs) lent .number) 12 w₁₂ (call (uses rs cs) lent .number ≡ 0)
+    → (let n = code.answered call rs (judged long text fine cs) lent .number in Check n 1 w₁ (Check n 2 w₂ (Check n 11 w₁₁ (Check n 12 w₁₂ (n ≡ 0)))))
+named-number call rs cs lent true text fine w₁ w₂ w₁₁ w₁₂ a a′ b b′ c c′ last = inl (a refl, refl)
+named-number call rs cs lent false false fine w₁ w₂ w₁₁ w₁₂ a a′ b b′ c c′ last = inr (a′ refl, inl (b refl, refl))
+named-number call rs cs lent false true false w₁ w₂ w₁₁ w₁₂ a a′ b b′ c c′ last = inr (a′ refl, inr (b′ refl, inl (c refl, refl)))
+named-number call rs cs lent false true true w₁ w₂ w₁₁ w₁₂ a a′ b b′ c c′ last = inr (a′ refl, inr (b′ refl, inr (c′ refl, last)))
 
 name-number : (call : List Use → List ℕ → code.Coded) (p : Plate) (name lent : List ℕ) (full : Type 0)
-    → Check (call (usesIn p name) lent .number) 12 full (call (usesIn p name) lent .number ≡ 0) → NameNumber name full (named call p name lent .number)
+    → Check (call (usesIn p name) lent .number) 12 full (call (usesIn p name) lent .number ≡ 0) → NameNumber name full (codedBy call p name lent .number)
 name-number call p name lent full last =
-    named-number (ltb 256 (length name)) (isText name) (every allowed (charsOf name)) (call (usesIn p name) lent) lent (256 < length name) (isText name ≡ false) (Strange name) full
+    named-number call (p .rules) (prepared p name) lent (ltb 256 (length name)) (isText name) (every allowed (charsOf name)) (256 < length name) (isText name ≡ false) (Strange name) full
     (λ e. ltb-true 256 (length name) e) (λ e h. let k = ltb-false 256 (length name) e in omega arith)
     (λ e. e) (λ e h. false≢true (sym h ∙ e))
     (λ e. strange (charsOf name) e) (λ e h. not-strange (charsOf name) e h)
@@ -102,7 +104,7 @@ over-none most [] (u ∷ us) bs e = let n = neither (ltb most (length bs)) (over
 over-none most (u ∷ done) more bs e = let n = neither (ltb most (length bs)) (over most (done ++ more) (step u bs)) e in over-none most done more (step u bs) (n .1)
 
 tested-12 : (t : Bool) (cs : List (List ℕ)) (lent : List ℕ) (w : Type 0) → (t ≡ true → w) → (t ≡ false → w → ⊥)
-    → (let n = cond t (code.refusal 12 lent) (code.listing cs lent) .number in Check n 12 w (n ≡ 0))
+    → (let n = cond t (code.noCodes 12 lent) (code.listing cs lent) .number in Check n 12 w (n ≡ 0))
 tested-12 true cs lent w a a′ = inl (a refl, refl)
 tested-12 false cs lent w a a′ = inr (a′ refl, refl)
 

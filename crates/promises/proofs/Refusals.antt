@@ -8,9 +8,9 @@ use lib.Dec.{ltb}
 use lib.ListN.{length}
 use Rattle.laws.specs.Lists.{every}
 use Rattle.laws.proofs.Tests.{by-test}
-use Rattle.chars.specs.Utf8.{isText, charsOf}
+use Rattle.chars.specs.Utf8.{isText}
 use Rattle.rule_text.specs.Items.{items, firstLine}
-use Rattle.plate.specs.Plate.{Plate, edition1}
+use Rattle.plate.specs.Plate.{Rule, Plate, edition1}
 use Rattle.plate.specs.Written.{plateBytes}
 use Rattle.plate.specs.Read.{readPlate}
 use Rattle.plate.proofs.Packed.{Bytes}
@@ -18,7 +18,10 @@ use Rattle.builder.specs.Build.{blank, plateOf, Verdict, verdict, Built, answer
 use Rattle.builder.specs.Build.Verdict.{Faulty, Fine}
 use Rattle.branches.specs.Branches.{Use, start, over, codes}
 use Rattle.branches.specs.Choice.{firstOnly}
-use Rattle.coder.specs.Name.{allowed}
+use Rattle.coder.specs.Name.{Named, named}
+use Rattle.coder.specs.Name.Named.{Refused, Chars}
+use Rattle.coder.specs.Walk.{uses}
+use Rattle.coder.specs.Answer as code
 use Rattle.coder.specs.Answer.{Coded, room, listing, listed, encoded, plated, listAnswer, encodeAnswer}
 use Rattle.promises.specs.When.{Overfull}
 use Rattle.promises.specs.Demands.{Keeps, BuildRefuses, ListRefuses, EncodeRefuses}
@@ -53,13 +56,16 @@ build-refuses text flag lent =
 abbrev Untouched : List ℕ → Coded → Type 0
 Untouched lent a = Keeps (a .number) (a .count) lent (a .buffer)
 
+-- A name that is refused, or a call that keeps.
+named-keeps : (call : List Use → List ℕ → Coded) → ((us : List Use) (lent : List ℕ) → Untouched lent (call us lent)) → (rs : List Rule) (n : Named) (lent : List ℕ)
+    → Untouched lent (code.answered call rs n lent)
+named-keeps call h rs (Refused number) lent = λ _. (refl, refl)
+named-keeps call h rs (Chars cs) lent = h (uses rs cs) lent
+
 plated-keeps : (call : List Use → List ℕ → Coded) → ((us : List Use) (lent : List ℕ) → Untouched lent (call us lent)) → (o : Option Plate) (name lent : List ℕ)
     → Untouched lent (plated call o name lent)
 plated-keeps call h none name lent = λ _. (refl, refl)
-plated-keeps call h (some p) name lent =
-    by-test (Untouched lent) (ltb 256 (length name)) _ _ (λ e _. (refl, refl)) λ e.
-    by-test (Untouched lent) (isText name) _ _
-    (λ f. by-test (Untouched lent) (every allowed (charsOf name)) _ _ (λ g. h _ lent) (λ g _. (refl, refl))) (λ f _. (refl, refl))
+plated-keeps call h (some p) name lent = named-keeps call h (p .rules) (named p name) lent
 
 listing-keeps : (cs : List (List ℕ)) (lent : List ℕ) → Untouched lent (listing cs lent)
 listing-keeps cs lent = λ h. absurd (h refl)

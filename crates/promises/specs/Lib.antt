@@ -4,5 +4,4 @@ pub mod Pinned
 pub mod Said
 pub mod When
 pub mod Demands
-pub mod Calls
 pub mod Pair

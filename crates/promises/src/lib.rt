@@ -1,6 +1,6 @@
 // The mission's three demands, promised of the library's calls. specs/Demands.antt says each; a function here only makes the calls that it speaks of, so that
 // it is proved exactly if what the calls promise is enough. A call that promised less would not prove it (tests/weakened).
-ghost use Rattle.promises.specs.Calls.{built, coded};
+ghost use Rattle.zengilvar.specs.Numbers.{built, coded};
 ghost use Rattle.promises.specs.Demands.{BuildRefuses, BuildGives, ListRefuses, ListGives, EncodeRefuses, EncodeGives, ListsChoices, EncodesFirst, PlatesKeep, TextsKeep, GivenAgain};
 use zengilvar::DmBuilt;
 use zengilvar::DmCoded;

@@ -1,31 +1,31 @@
--- Only one answer and one buffer satisfy each promise of this crate: every number that comes back and the whole buffer are said. Assumes nothing.
+-- Only one answer and one buffer satisfy each promise of this crate: what is told are all of them. Assumes nothing.
 use Prim.Native.Nat.{ℕ}
-use mathlib.Core.Path.{_≡_}
+use mathlib.Core.Path.{_≡_, sym, ap, _∙_}
 use mathlib.Core.Bool.{Bool}
 use mathlib.Core.List.{List}
-use Rattle.laws.proofs.Only.{only}
-use Rattle.builder.specs.Build as Build
-use Rattle.builder.specs.Build.{buildAnswer}
-use Rattle.coder.specs.Answer as Answer
-use Rattle.coder.specs.Answer.{listAnswer, encodeAnswer}
-use Rattle.zengilvar.specs.Numbers.{BuiltIs, CodedIs}
+use Rattle.builder.specs.Build.{Built, buildAnswer}
+use Rattle.coder.specs.Answer.{Coded, listAnswer, encodeAnswer}
+use Rattle.zengilvar.specs.Numbers.{built, coded}
 use Rattle.zengilvar.specs.declared.DmBuilt.{DmBuilt}
 use Rattle.zengilvar.specs.declared.DmCoded.{DmCoded}
 
-one-built : (a : Build.Built) (r r′ : DmBuilt) (buffer buffer′ : List ℕ) → BuiltIs a r buffer → BuiltIs a r′ buffer′ → (r ≡ r′) × (buffer ≡ buffer′)
-one-built a r r′ buffer buffer′ e f =
-    (λ i. record { number = only (e .0) (f .0) i; line = only (e .1) (f .1) i; length = only (e .2) (f .2) i }, only (e .3) (f .3))
+one-built : (a : Built) (r r′ : DmBuilt) (out out′ : List ℕ) → built r out ≡ a → built r′ out′ ≡ a → (r ≡ r′) × (out ≡ out′)
+one-built a r r′ out out′ e f =
+    let same = e ∙ sym f in
+    (ap (λ (b : Built). record { number = b .number; line = b .line; length = b .length }) same, ap (λ (b : Built). b .buffer) same)
 
-one-coded : (a : Answer.Coded) (r r′ : DmCoded) (buffer buffer′ : List ℕ) → CodedIs a r buffer → CodedIs a r′ buffer′ → (r ≡ r′) × (buffer ≡ buffer′)
-one-coded a r r′ buffer buffer′ e f = (λ i. record { number = only (e .0) (f .0) i; count = only (e .1) (f .1) i }, only (e .2) (f .2))
+one-coded : (a : Coded) (r r′ : DmCoded) (out out′ : List ℕ) → coded r out ≡ a → coded r′ out′ ≡ a → (r ≡ r′) × (out ≡ out′)
+one-coded a r r′ out out′ e f =
+    let same = e ∙ sym f in
+    (ap (λ (b : Coded). record { number = b .number; count = b .count }) same, ap (λ (b : Coded). b .buffer) same)
 
-pub dm-build : (text : List ℕ) (folding : Bool) (lent : List ℕ) (r r′ : DmBuilt) (buffer buffer′ : List ℕ)
-    → BuiltIs (buildAnswer text folding lent) r buffer → BuiltIs (buildAnswer text folding lent) r′ buffer′ → (r ≡ r′) × (buffer ≡ buffer′)
-dm-build text folding lent r r′ buffer buffer′ e f = one-built (buildAnswer text folding lent) r r′ buffer buffer′ e f
+pub dm-build : (text : List ℕ) (folding : Bool) (lent : List ℕ) (r r′ : DmBuilt) (out out′ : List ℕ)
+    → built r out ≡ buildAnswer text folding lent → built r′ out′ ≡ buildAnswer text folding lent → (r ≡ r′) × (out ≡ out′)
+dm-build text folding lent r r′ out out′ e f = one-built (buildAnswer text folding lent) r r′ out out′ e f
 
-module _ (plate name lent : List ℕ) (r r′ : DmCoded) (buffer buffer′ : List ℕ) where
-  pub dm-encode : CodedIs (encodeAnswer plate name lent) r buffer → CodedIs (encodeAnswer plate name lent) r′ buffer′ → (r ≡ r′) × (buffer ≡ buffer′)
-  dm-encode e f = one-coded (encodeAnswer plate name lent) r r′ buffer buffer′ e f
+module _ (plate name lent : List ℕ) (r r′ : DmCoded) (out out′ : List ℕ) where
+  pub dm-encode : coded r out ≡ encodeAnswer plate name lent → coded r′ out′ ≡ encodeAnswer plate name lent → (r ≡ r′) × (out ≡ out′)
+  dm-encode e f = one-coded (encodeAnswer plate name lent) r r′ out out′ e f
 
-  pub dm-list : CodedIs (listAnswer plate name lent) r buffer → CodedIs (listAnswer plate name lent) r′ buffer′ → (r ≡ r′) × (buffer ≡ buffer′)
-  dm-list e f = one-coded (listAnswer plate name lent) r r′ buffer buffer′ e f
+  pub dm-list : coded r out ≡ listAnswer plate name lent → coded r′ out′ ≡ listAnswer plate name lent → (r ≡ r′) × (out ≡ out′)
+  dm-list e f = one-coded (listAnswer plate name lent) r r′ out out′ e f

@@ -2,8 +2,12 @@
 ghost use Rattle.builder.specs.Build.{buildAnswer};
 ghost use Rattle.coder.specs.Answer.{listAnswer, encodeAnswer};
 ghost use Rattle.builder.specs.Survey.{numberOf};
-ghost use Rattle.zengilvar.specs.Numbers.{Says, Counts, BuiltIs, CodedIs};
+ghost use Rattle.builder.specs.Outcome as build;
+ghost use Rattle.coder.specs.Outcome as code;
+ghost use Rattle.zengilvar.specs.Numbers.{built, coded};
 ghost use mathlib.Core.Path.{_≡_};
+ghost use mathlib.Core.List.{List};
+ghost use Prim.Native.Nat.{ℕ};
 use builder::Built;
 use builder::Fault;
 use builder::build;
@@ -43,7 +47,7 @@ fn fault_number(fault: Fault) -> u64
 }
 
 fn built_refusal(number: u64, line: u64) -> DmBuilt
-    ensures { λ r. ⌜ (r .number ≡ number) × (r .line ≡ line) × (r .length ≡ 0) ⌝ }
+    ensures { λ r. ⌜ r ≡ record { number = number; line = line; length = 0 } ⌝ }
 {
     DmBuilt {
         number: number,
@@ -54,7 +58,7 @@ fn built_refusal(number: u64, line: u64) -> DmBuilt
 
 // 01's number, line and length of what build answers.
 fn built_numbers(b: Built) -> DmBuilt
-    ensures { λ r. ⌜ Says b r ⌝ }
+    ensures { λ r. ⌜ ((out : List ℕ) → built r out ≡ build.told b out) ⌝ }
 {
     match b {
         Built::Plate(n) => DmBuilt {
@@ -70,7 +74,7 @@ fn built_numbers(b: Built) -> DmBuilt
 }
 
 fn coded_refusal(number: u64) -> DmCoded
-    ensures { λ r. ⌜ (r .number ≡ number) × (r .count ≡ 0) ⌝ }
+    ensures { λ r. ⌜ r ≡ record { number = number; count = 0 } ⌝ }
 {
     DmCoded {
         number: number,
@@ -80,7 +84,7 @@ fn coded_refusal(number: u64) -> DmCoded
 
 // 01's number and count of what encode and list answer.
 fn coded_numbers(c: Coded) -> DmCoded
-    ensures { λ r. ⌜ Counts c r ⌝ }
+    ensures { λ r. ⌜ ((out : List ℕ) → coded r out ≡ code.told c out) ⌝ }
 {
     match c {
         Coded::Codes(n) => DmCoded {
@@ -98,7 +102,7 @@ fn coded_numbers(c: Coded) -> DmCoded
 // Rule text and a folding flag to a plate, written to the front of `plate`.
 #[no_mangle]
 pub extern "C" fn dm_build(text: &[u8], folding: bool, plate: &mut [u8]) -> DmBuilt
-    ensures { λ r. ⌜ BuiltIs (buildAnswer (now (text .entry)) folding (now (plate .entry))) r (now (plate .exit)) ⌝ }
+    ensures { λ r. ⌜ built r (now (plate .exit)) ≡ buildAnswer (now (text .entry)) folding (now (plate .entry)) ⌝ }
 {
     let b = build(text, folding, plate);
     built_numbers(b)
@@ -107,7 +111,7 @@ pub extern "C" fn dm_build(text: &[u8], folding: bool, plate: &mut [u8]) -> DmBu
 // One code of a name, written to the front of `out`.
 #[no_mangle]
 pub extern "C" fn dm_encode(plate: &[u8], name: &[u8], out: &mut [u8]) -> DmCoded
-    ensures { λ r. ⌜ CodedIs (encodeAnswer (now (plate .entry)) (now (name .entry)) (now (out .entry))) r (now (out .exit)) ⌝ }
+    ensures { λ r. ⌜ coded r (now (out .exit)) ≡ encodeAnswer (now (plate .entry)) (now (name .entry)) (now (out .entry)) ⌝ }
 {
     let c = encode(plate, name, out);
     coded_numbers(c)
@@ -116,7 +120,7 @@ pub extern "C" fn dm_encode(plate: &[u8], name: &[u8], out: &mut [u8]) -> DmCode
 // All codes of a name, a bar between two, written to the front of `out`.
 #[no_mangle]
 pub extern "C" fn dm_list(plate: &[u8], name: &[u8], out: &mut [u8]) -> DmCoded
-    ensures { λ r. ⌜ CodedIs (listAnswer (now (plate .entry)) (now (name .entry)) (now (out .entry))) r (now (out .exit)) ⌝ }
+    ensures { λ r. ⌜ coded r (now (out .exit)) ≡ listAnswer (now (plate .entry)) (now (name .entry)) (now (out .entry)) ⌝ }
 {
     let c = list(plate, name, out);
     coded_numbers(c)

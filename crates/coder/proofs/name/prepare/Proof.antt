@@ -1,18 +1,19 @@
 -- `name::prepare` meets its contract. The loop keeps Chars.Made: what is wanted of the bytes left is what is wanted of the name. A turn is Chars.space,
 -- Chars.strange or Chars.kept, the ways out Chars.bad, Chars.end-strange and Chars.end. Each turn passes a byte at least, and a character takes no more
 -- entries than bytes. Assumes nothing.
-use Prim.Native.Nat.{_+_, _-_, _≤_, _<_}
-use mathlib.Core.List.{[]}
-use mathlib.Core.Path.{_≡_, sym, ap, _∙_}
+use Prim.Native.Nat.{ℕ, _+_, _-_, _≤_, _<_}
+use mathlib.Core.List.{List, []}
+use mathlib.Core.Path.{_≡_, sym, _∙_}
 use native.Mathlib.Omega.{arith}
 use borrow.Author.Needs.{needs}
-use lib.ListN.{length}
-use Rattle.plate.specs.Plate.{edition1}
+use lib.ListN.{length, replicate, length-replicate}
+use Rattle.plate.specs.Plate.{Plate, edition1}
 use Rattle.plate.specs.Read.{plateAt}
-use Rattle.coder.specs.declared.Fault.{Fault}
-use Rattle.coder.specs.Held.{heldChars}
+use Rattle.coder.specs.Name.{named}
+use Rattle.coder.specs.Held.{namedBy, PreparedIs}
+use Rattle.coder.specs.declared.NameFault.{NameFault}
 use Rattle.coder.specs.declared.Prepared.{Prepared}
-use Rattle.coder.proofs.Chars.{Made, too-long, start, bad, space, strange, kept, end-strange, end}
+use Rattle.coder.proofs.Chars.{Made, too-long, start, bad, space, strange, kept, end-strange, end, whole}
 use Rattle.coder.proofs.name.prepare.Statement.{statement}
 use Rattle.coder.proofs.name.prepare.Tie as tie
 
@@ -36,14 +37,14 @@ behind : (c : tie.After-enum-told2 Inv-loop μ-loop) → length (c .before .befo
 behind c = rw (c .enum-told2 .given .1) at (c .before .before .char-at .ensures .1)
 
 -- A refusal has no characters.
-refuses : (r wanted : Prepared) (f : Fault) → r ≡ heldChars [] f → heldChars [] f ≡ wanted → (r ≡ wanted) × (r .count ≤ 256)
-refuses r wanted f e g = let n = ap (λ (x : Prepared). x .count) e in (e ∙ g, omega arith)
+refuses : (p : Plate) (name : List ℕ) (r : Prepared) (f : NameFault) → r ≡ record { chars = replicate 256 0; count = 0; fault = f } → namedBy f [] ≡ named p name → PreparedIs p name r
+refuses p name r f e g = rw e (record { is = g; few = omega arith; long = length-replicate {A = ℕ} 256 0 })
 
-refused-requires : tie.Need-refused-requires Inv-loop μ-loop
-refused-requires c κs = tt
+no-chars-requires : tie.Need-no-chars-requires Inv-loop μ-loop
+no-chars-requires c κs = tt
 
 returns : tie.Need-returns Inv-loop μ-loop
-returns c = let a = c .before .before .before .before .args in refuses _ _ _ (c .refused .ensures) (too-long (plateAt (edition1 .width) (a .plate .now)) (a .name .now) (c .before .if1 .taken))
+returns c = let a = c .before .before .before .before .args in refuses _ _ _ _ (c .no-chars .ensures) (too-long (plateAt (edition1 .width) (a .plate .now)) (a .name .now) (c .before .if1 .taken))
 
 loop-holds : tie.Need-loop-holds Inv-loop μ-loop
 loop-holds c = (omega arith, omega arith, start _ _ (c .if1 .left))
@@ -108,30 +109,36 @@ loop-again-3 c =
 enum-told : tie.Need-enum-told Inv-loop μ-loop
 enum-told c = search needs
 
-refused-requires-2 : tie.Need-refused-requires-2 Inv-loop μ-loop
-refused-requires-2 c κs = tt
+no-chars-requires-2 : tie.Need-no-chars-requires-2 Inv-loop μ-loop
+no-chars-requires-2 c κs = tt
 
 returns-2 : tie.Need-returns-2 Inv-loop μ-loop
-returns-2 c = refuses _ _ _ (c .refused2 .ensures) (bad _ _ _ _ _ _ (c .before .before .before .before .loop .inv .2) _ (c .before .before .before .char-at .ensures .0) (c .before .enum-told .given .1))
+returns-2 c = refuses _ _ _ _ (c .no-chars2 .ensures) (bad _ _ _ _ _ _ (c .before .before .before .before .loop .inv .2) _ (c .before .before .before .char-at .ensures .0) (c .before .enum-told .given .1))
 
 enum-told-2 : tie.Need-enum-told-2 Inv-loop μ-loop
 enum-told-2 c = search needs
 
-refused-requires-3 : tie.Need-refused-requires-3 Inv-loop μ-loop
-refused-requires-3 c κs = tt
+no-chars-requires-3 : tie.Need-no-chars-requires-3 Inv-loop μ-loop
+no-chars-requires-3 c κs = tt
 
 returns-3 : tie.Need-returns-3 Inv-loop μ-loop
-returns-3 c = refuses _ _ _ (c .refused3 .ensures) (end-strange _ _ _ _ _ _ (c .before .before .before .before .before .loop .inv .2) (behind (c .before .before)) (c .before .if4 .taken))
+returns-3 c = refuses _ _ _ _ (c .no-chars3 .ensures) (end-strange _ _ _ _ _ _ (c .before .before .before .before .before .loop .inv .2) (behind (c .before .before)) (c .before .if4 .taken))
 
-held-requires : tie.Need-held-requires Inv-loop μ-loop
-held-requires c κs = tt
+with-chars-requires : tie.Need-with-chars-requires Inv-loop μ-loop
+with-chars-requires c κs = tt
 
 returns-4 : tie.Need-returns-4 Inv-loop μ-loop
 returns-4 c =
-    let i = c .before .before .before .before .before .loop .inv in
-    let n = c .before .before .before .before .before .before .if1 .left in
-    let e = ap (λ (x : Prepared). x .count) (c .held .ensures) in
-    (c .held .ensures ∙ end _ _ _ _ _ _ (i .2) (behind (c .before .before)) (c .before .if4 .left), omega arith)
+    let ended = c .before .before in
+    let at-loop = ended .before .before .before in
+    let l = at-loop .loop in
+    let n = at-loop .before .if1 .left in
+    let fits : l .count ≤ 256 = omega arith in
+    rw (c .with-chars .ensures) (record {
+      is = end _ _ _ _ _ _ (l .inv .2) (behind ended) (c .before .if4 .left);
+      few = fits;
+      long = whole _ _ _ _ _ _ (l .inv .2) fits;
+    })
 
 pub prepare-spec : {M : Type 1} → statement M
 prepare-spec =
@@ -139,7 +146,7 @@ prepare-spec =
     (tie.spec
     Inv-loop
     μ-loop
-    refused-requires
+    no-chars-requires
     returns
     loop-holds
     char-at-requires
@@ -157,10 +164,10 @@ prepare-spec =
     loop-less-3
     loop-again-3
     enum-told
-    refused-requires-2
+    no-chars-requires-2
     returns-2
     enum-told-2
-    refused-requires-3
+    no-chars-requires-3
     returns-3
-    held-requires
+    with-chars-requires
     returns-4)

@@ -219,13 +219,13 @@ returns-2 c =
     let n = i .3 in
     let z = ap length none-left in
     let some = one-letter s at (here e) in
-    let whole = sym (i .4) ∙ all (lettersFrom s at k) (rest-of g) (c .before .bytes .j) none-left in (
-      left-hit s (places-of g) (rest-of g) (found .first) (found .behind) (p .0) (p .1 .0) (g .group-of .ensures) (p .2) (turn .i) (e .if1 .left) (turn .inv) whole,
-      here e,
-      omega arith,
-      omega arith,
-      omega arith,
-    )
+    let whole = sym (i .4) ∙ all (lettersFrom s at k) (rest-of g) (c .before .bytes .j) none-left in record {
+      taken = left-hit s (places-of g) (rest-of g) (found .first) (found .behind) (p .0) (p .1 .0) (g .group-of .ensures) (p .2) (turn .i) (e .if1 .left) (turn .inv) whole;
+      here = here e;
+      counted = omega arith;
+      some = omega arith;
+      few = omega arith;
+    }
 
 pub search-spec : {M : Type 1} → statement M
 search-spec =
