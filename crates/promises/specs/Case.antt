@@ -1,27 +1,38 @@
--- A call and what it must answer: the form of the examples, from rule text to codes. Assumes nothing.
-use Prim.Native.Nat.{ℕ, _-_}
-use mathlib.Core.Bool.{Bool, true, false, _&&_}
+-- A call and what it must answer: the form of the examples, from rule text to codes. A list of cases stands beside one of wrong cases, none of which may
+-- hold: so a test that is always true proves no list. Assumes nothing.
+use Prim.Native.Nat.{ℕ, zero, suc, _-_}
+use mathlib.Core.Bool.{Bool, true, false, not, _&&_}
 use mathlib.Core.Option.{Option, none, some}
-use mathlib.Core.List.{List, _++_}
+use mathlib.Core.List.{List, [], _++_}
 use lib.Dec.{eqb}
 use lib.ListN.{length, take, replicate}
-use Rattle.laws.specs.Lists.{same}
+use Rattle.laws.specs.Lists as lists
+use Rattle.laws.specs.Lists.{same, every}
+use Rattle.chars.specs.Quoted.{bytes}
 use Rattle.rule_text.specs.Fields.{alternatives}
 use Rattle.plate.specs.Plate.{Plate}
 use Rattle.plate.specs.Read.{readPlate}
-use Rattle.builder.specs.Build.{buildAnswer}
+use Rattle.builder.specs.Build.{Built, buildAnswer}
 use Rattle.coder.specs.Answer.{Coded, listAnswer, encodeAnswer}
 
--- Texts, names and codes are bytes; a flag is the folding flag; `lent` is how many bytes are lent to the call.
+-- Texts, names, plates and codes are bytes; a flag is the folding flag; `lent` is how many bytes are lent to the call.
 pub data Case : Type 0 where
   -- text, flag, name, lent, codes: list gives these codes, and encode the first of them
   Codes : List ℕ → Bool → List ℕ → ℕ → List ℕ → Case
   -- text, flag, name, lent, number: list refuses the name
   BadName : List ℕ → Bool → List ℕ → ℕ → ℕ → Case
+  -- text, flag, name, lent, code: encode gives this code
+  OneCode : List ℕ → Bool → List ℕ → ℕ → List ℕ → Case
+  -- text, flag, name, lent, number: encode refuses the name
+  NoCode : List ℕ → Bool → List ℕ → ℕ → ℕ → Case
   -- text, rules, foldings: build answers, and the plate holds so many of each
   GoodText : List ℕ → ℕ → ℕ → Case
   -- text, number, line: build refuses the text
   BadText : List ℕ → ℕ → ℕ → Case
+  -- text, flag, plate: build writes these bytes
+  Written : List ℕ → Bool → List ℕ → Case
+  -- plate, number: what list answers of a plate, built or not, for the empty name
+  Taken : List ℕ → ℕ → Case
 
 -- a buffer that no answer looks like
 abbrev pub lend : ℕ → List ℕ
@@ -39,16 +50,34 @@ codedIs a number count buffer = eqb (a .number) number && (eqb (a .count) count 
 abbrev pub gives : Coded → ℕ → List ℕ → Bool
 gives a lent codes = codedIs a 0 (length (alternatives codes)) (codes ++ lend (lent - length codes))
 
+-- nothing given, and every byte as lent
+abbrev pub refuses : Coded → ℕ → ℕ → Bool
+refuses a lent number = codedIs a number 0 (lend lent)
+
+abbrev pub builtIs : Built → ℕ → ℕ → ℕ → List ℕ → Bool
+builtIs b number line length buffer = eqb (b .number) number && (eqb (b .line) line && (eqb (b .length) length && same (b .buffer) buffer))
+
 abbrev pub holding : Option Plate → ℕ → ℕ → Bool
 holding none rules foldings = false
 holding (some p) rules foldings = eqb (length (p .rules)) rules && eqb (length (p .foldings)) foldings
+
+-- the answer for the empty name into 6 bytes
+abbrev pub taking : Coded → ℕ → Bool
+taking a zero = gives a 6 (bytes "000000")
+taking a (suc n) = refuses a 6 (suc n)
 
 abbrev pub holds : Case → Bool
 holds (Codes text flag name lent codes) =
     let plate = builtOf text flag in
     gives (listAnswer plate name (lend lent)) lent codes && gives (encodeAnswer plate name (lend 8)) 8 (take 6 codes)
-holds (BadName text flag name lent number) = codedIs (listAnswer (builtOf text flag) name (lend lent)) number 0 (lend lent)
+holds (BadName text flag name lent number) = refuses (listAnswer (builtOf text flag) name (lend lent)) lent number
+holds (OneCode text flag name lent code) = gives (encodeAnswer (builtOf text flag) name (lend lent)) lent code
+holds (NoCode text flag name lent number) = refuses (encodeAnswer (builtOf text flag) name (lend lent)) lent number
 holds (GoodText text rules foldings) = holding (readPlate (builtOf text true)) rules foldings
-holds (BadText text number line) =
-    let b = buildAnswer text true (lend 700) in
-    eqb (b .number) number && (eqb (b .line) line && (eqb (b .length) 0 && same (b .buffer) (lend 700)))
+holds (BadText text number line) = builtIs (buildAnswer text true (lend 700)) number line 0 (lend 700)
+holds (Written text flag plate) = builtIs (buildAnswer text flag (lend 700)) 0 0 (length plate) (plate ++ lend (700 - length plate))
+holds (Taken plate number) = taking (listAnswer plate [] (lend 6)) number
+
+-- Each case holds, and none of the wrong ones.
+abbrev pub apart : List Case → List Case → Bool
+apart right wrong = every holds right && not (lists.some holds wrong)

@@ -1,6 +1,7 @@
 pub mod Case
 pub mod Starred
 pub mod Pinned
+pub mod Edges
 pub mod Said
 pub mod When
 pub mod Demands

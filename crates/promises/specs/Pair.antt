@@ -5,7 +5,7 @@ use mathlib.Core.Path.{refl}
 use mathlib.Core.Bool.{true}
 use mathlib.Core.List.{List, [], _∷_}
 use lib.Dec.{T}
-use Rattle.laws.specs.Lists.{every, splitAt}
+use Rattle.laws.specs.Lists.{splitAt}
 use Rattle.chars.specs.Utf8.{textFrom, charsFrom}
 use Rattle.chars.specs.Letters.{white, capital, evenCapital, oddCapital, lowerOf, vowel}
 use Rattle.chars.specs.Quoted.{bytes, lines}
@@ -17,7 +17,7 @@ use Rattle.builder.specs.Build.{buildAnswer, verdict}
 use Rattle.branches.specs.Branches.{endsWith, extend, met, step, run, over}
 use Rattle.coder.specs.Walk.{walk}
 use Rattle.coder.specs.Answer.{joined, room, listAnswer, encodeAnswer}
-use Rattle.promises.specs.Case.{Case, Codes, holds}
+use Rattle.promises.specs.Case.{Case, Codes, apart}
 use Rattle.promises.specs.Demands.{WiderText}
 
 abbrev pub narrow : List ℕ
@@ -55,6 +55,10 @@ cases =
     ∷ Codes wide true (bytes "rcà") 447 (bytes "900000|930000|800000|830000")
     ∷ []
 
-pub pair-coded : T (every holds cases)
+-- the second text's codes under the first
+abbrev wrong : List Case
+wrong = Codes narrow true (bytes "rcà") 447 (bytes "900000|930000|800000|830000") ∷ []
+
+pub pair-coded : T (apart cases wrong)
 unfolding textFrom charsFrom white capital evenCapital oddCapital lowerOf vowel entry quadruplet folding multilineComment endOfLine ending comment blanks until count later pairAt lineAt part plain escaped partAt letterAt closing itemsFrom splitAt bit numberAt buildAnswer verdict endsWith extend met step run over foldBy walk joined room listAnswer encodeAnswer
 pair-coded = tt

@@ -6,7 +6,7 @@ use mathlib.Core.Bool.{true, false}
 use mathlib.Core.List.{List, [], _∷_, _++_}
 use lib.Dec.{T}
 use lib.ListN.{replicate}
-use Rattle.laws.specs.Lists.{every, splitAt}
+use Rattle.laws.specs.Lists.{splitAt}
 use Rattle.chars.specs.Utf8.{textFrom, charsFrom, bytesOf}
 use Rattle.chars.specs.Letters.{white, capital, evenCapital, oddCapital, lowerOf, vowel}
 use Rattle.chars.specs.Quoted.{bytes, lines}
@@ -18,7 +18,7 @@ use Rattle.branches.specs.Branches.{endsWith, extend, met, step, run, over}
 use Rattle.plate.specs.Read.{foldBy}
 use Rattle.coder.specs.Walk.{walk}
 use Rattle.coder.specs.Answer.{joined, room, listAnswer, encodeAnswer}
-use Rattle.promises.specs.Case.{Case, Codes, BadName, GoodText, BadText, holds}
+use Rattle.promises.specs.Case.{Case, Codes, BadName, GoodText, BadText, apart}
 use Rattle.promises.specs.Starred.{textS, under, underS}
 
 -- n foldings, of the characters from c on
@@ -137,6 +137,22 @@ cases =
     ∷ BadText (bytes "/**/*/") 3 1
     ∷ []
 
-pub pinned : T (every holds cases)
+-- For each kind of case: another answer, an answer in place of a refusal, a refusal in place of an answer.
+abbrev wrong : List Case
+wrong =
+    under ends "xy" "433000"
+    ∷ Codes textS true (bytes "cc") 26 (bytes "400000|450000|540000|500000")
+    ∷ underS "ƀ" "000000"
+    ∷ BadName textS true (bytes "cc") 26 10
+    ∷ BadName textS true (bytes "cc") 27 12
+    ∷ GoodText (bytes "a=\n") 1 1
+    ∷ GoodText (bytes "a=\n") 0 0
+    ∷ GoodText (bytes "a=\nb=c") 0 2
+    ∷ BadText (bytes "\n\n?") 3 2
+    ∷ BadText (bytes "\n\n?") 2 3
+    ∷ BadText (bytes "\n\n") 3 3
+    ∷ []
+
+pub pinned : T (apart cases wrong)
 unfolding textFrom charsFrom white capital evenCapital oddCapital lowerOf vowel entry quadruplet folding multilineComment endOfLine ending comment blanks until count later pairAt lineAt part plain escaped partAt letterAt closing itemsFrom splitAt bit numberAt buildAnswer verdict endsWith extend met step run over foldBy walk joined room listAnswer encodeAnswer
 pinned = tt

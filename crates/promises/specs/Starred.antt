@@ -1,10 +1,11 @@
--- The twelve starred examples of 01, "Examples to hold against it", from rule text to codes, as one statement over a list. Assumes nothing.
+-- The twelve starred examples of 01, "Examples to hold against it", from rule text to codes, as one statement over a list, and beside it
+-- wrong ones. Assumes nothing.
 use Prim.Native.Nat.{ℕ}
 use Prim.Native.String.{String}
 use mathlib.Core.Bool.{true}
 use mathlib.Core.List.{List, [], _∷_, _++_}
 use lib.Dec.{T}
-use Rattle.laws.specs.Lists.{every, splitAt}
+use Rattle.laws.specs.Lists.{splitAt}
 use Rattle.chars.specs.Utf8.{textFrom, charsFrom}
 use Rattle.chars.specs.Letters.{white, capital, evenCapital, oddCapital, lowerOf, vowel}
 use Rattle.chars.specs.Quoted.{bytes, lines}
@@ -16,7 +17,7 @@ use Rattle.branches.specs.Branches.{endsWith, extend, met, step, run, over}
 use Rattle.plate.specs.Read.{foldBy}
 use Rattle.coder.specs.Walk.{walk}
 use Rattle.coder.specs.Answer.{joined, room, listAnswer, encodeAnswer}
-use Rattle.promises.specs.Case.{Case, Codes, holds}
+use Rattle.promises.specs.Case.{Case, Codes, apart}
 
 -- 01: "Small text S, built with the flag on: `à=a`; rules `a` and `o` with 0, empty, empty; `ie` 1, empty, empty; `ch` and `c` with `4|5` in all three
 -- fields; `r` 9, `s` 4, `w` 7, `m` 6, `n` 6 in all three; `h` 5, 5, empty."
@@ -62,6 +63,15 @@ cases =
     ∷ under (textS ++ bytes "\"z\" \"4|4\" \"4|4\" \"4|4\"\n") "z" "400000"
     ∷ []
 
-pub starred : T (every holds cases)
+-- another code, a code less, a code more, the same codes in another order
+abbrev wrong : List Case
+wrong =
+    underS "mm" "660000"
+    ∷ underS "cc" "400000|450000|540000"
+    ∷ under (textS ++ bytes "\"z\" \"4|4\" \"4|4\" \"4|4\"\n") "z" "400000|400000"
+    ∷ underS "cc" "400000|450000|500000|540000"
+    ∷ []
+
+pub starred : T (apart cases wrong)
 unfolding textFrom charsFrom white capital evenCapital oddCapital lowerOf vowel entry quadruplet folding multilineComment endOfLine ending comment blanks until count later pairAt lineAt part plain escaped partAt letterAt closing itemsFrom splitAt bit numberAt buildAnswer verdict endsWith extend met step run over foldBy walk joined room listAnswer encodeAnswer
 starred = tt
