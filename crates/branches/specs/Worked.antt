@@ -4,7 +4,7 @@ use Prim.Native.String.{String}
 use mathlib.Core.Bool.{Bool, true, false, _&&_, not}
 use mathlib.Core.List.{List, [], _∷_}
 use lib.Dec.{T}
-use Rattle.laws.specs.Lists.{every, same, splitAt}
+use Rattle.laws.specs.Lists.{every, some, same, splitAt}
 use Rattle.chars.specs.Quoted.{bytes}
 use Rattle.branches.specs.Branches.{Use, endsWith, extend, met, step, run, over, start, codes}
 
@@ -57,7 +57,16 @@ cases =
     ∷ case (takes "12345" ∷ takes "67" ∷ []) "123456"
     ∷ []
 
-pub worked : T (every holds cases)
+-- another code, a code less, a code more, another order: none may hold
+abbrev wrong : List Case
+wrong =
+    case (takes "43" ∷ takes "3" ∷ []) "433000"
+    ∷ case (takes "4|5" ∷ takes "4|5" ∷ []) "400000|450000|540000"
+    ∷ case (takes "4|4" ∷ []) "400000|400000"
+    ∷ case (takes "4" ∷ takes "|4" ∷ takes "4" ∷ []) "400000|440000"
+    ∷ []
+
+pub worked : T (every holds cases && not (some holds wrong))
 unfolding splitAt endsWith extend met step run
 worked = tt
 

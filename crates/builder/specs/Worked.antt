@@ -1,7 +1,7 @@
 -- Worked plates, built from their texts, by computation. The third was made by a writer of its own, from 01's words. Assumes nothing.
 use Prim.Native.Nat.{ℕ, _-_}
 use mathlib.Core.Path.{_≡_, refl}
-use mathlib.Core.Bool.{Bool, true, false, _&&_}
+use mathlib.Core.Bool.{Bool, true, false, not, _&&_, _||_}
 use mathlib.Core.List.{List, [], _∷_, _++_}
 use lib.Dec.{T, eqb}
 use lib.ListN.{length, replicate}
@@ -35,10 +35,17 @@ builds text flag plate =
     let tight = buildAnswer text flag (replicate (n - 1) 7) in
     built exact 0 n plate && (built roomy 0 n (plate ++ (7 ∷ [])) && built tight 9 0 (replicate (n - 1) 7))
 
+abbrev one : List ℕ
+one = bytes "\"a\" \"0\" \"\" \"\"\n"
+
+abbrev mixed : List ℕ
+mixed = lines ("é=e" ∷ "à=a" ∷ "\"b\" \"1\" \"\" \"\"" ∷ "\"aa\" \"2\" \"\" \"\"" ∷ "\"aé\" \"3\" \"\" \"\"" ∷ "à=b" ∷ "\"aa\" \"4|56\" \"\" \"\"" ∷ [])
+
+-- Each text builds its plate; none builds it with the other flag, or another's, and what is refused builds nothing.
 pub worked : T (
-    builds (bytes "\"a\" \"0\" \"\" \"\"\n") true whole
-    && (builds [] true empty
-    && builds (lines ("é=e" ∷ "à=a" ∷ "\"b\" \"1\" \"\" \"\"" ∷ "\"aa\" \"2\" \"\" \"\"" ∷ "\"aé\" \"3\" \"\" \"\"" ∷ "à=b" ∷ "\"aa\" \"4|56\" \"\" \"\"" ∷ [])) false ordering)
+    builds one true whole
+    && (builds [] true empty && builds mixed false ordering)
+    && not (builds one false whole || builds [] true whole || builds mixed true ordering || builds (bytes "?") true [])
     )
 unfolding buildAnswer verdict textFrom splitAt entry quadruplet folding multilineComment endOfLine ending comment blanks until count later pairAt lineAt part plain escaped partAt letterAt closing itemsFrom
 worked = tt

@@ -3,6 +3,7 @@ use Prim.Native.Nat.{ℕ}
 use mathlib.Core.Bool.{Bool, _&&_, not}
 use mathlib.Core.List.{List, [], _∷_}
 use lib.Dec.{T}
+use lib.ListN.{drop}
 use Rattle.laws.specs.Lists.{every, same}
 use Rattle.chars.specs.Utf8.{textFrom, isText, charsFrom, charsOf}
 use Rattle.chars.specs.Quoted.{bytes}
@@ -25,10 +26,6 @@ bad =
 abbrev refused : List ℕ → Bool
 refused s = not (isText s)
 
-pub ill-formed : T (every refused bad)
-unfolding textFrom
-ill-formed = tt
-
 -- the last before and the first behind each edge
 abbrev edges : List ℕ
 edges = 0x00 ∷ 0x7F ∷ 0x80 ∷ 0x7FF ∷ 0x800 ∷ 0xD7FF ∷ 0xE000 ∷ 0xFFFF ∷ 0x10000 ∷ 0x10FFFF ∷ []
@@ -38,6 +35,11 @@ edgeBytes =
     0x00 ∷ 0x7F ∷ 0xC2 ∷ 0x80 ∷ 0xDF ∷ 0xBF ∷ 0xE0 ∷ 0xA0 ∷ 0x80 ∷ 0xED ∷ 0x9F ∷ 0xBF ∷ 0xEE ∷ 0x80 ∷ 0x80 ∷ 0xEF ∷ 0xBF ∷ 0xBF ∷ 0xF0 ∷ 0x90 ∷ 0x80 ∷ 0x80 ∷ 0xF4
     ∷ 0x8F ∷ 0xBF ∷ 0xBF ∷ []
 
-pub well-formed : T (isText edgeBytes && same (charsOf edgeBytes) edges && same (bytes "aÀ€😀") (0x61 ∷ 0xC3 ∷ 0x80 ∷ 0xE2 ∷ 0x82 ∷ 0xAC ∷ 0xF0 ∷ 0x9F ∷ 0x98 ∷ 0x80 ∷ []))
+abbrev quoted : List ℕ
+quoted = 0x61 ∷ 0xC3 ∷ 0x80 ∷ 0xE2 ∷ 0x82 ∷ 0xAC ∷ 0xF0 ∷ 0x9F ∷ 0x98 ∷ 0x80 ∷ []
+
+-- What is ill-formed is refused, what is well-formed is read; and no other character, and no other byte, for any of them.
+pub worked : T (every refused bad && isText edgeBytes && same (charsOf edgeBytes) edges && same (bytes "aÀ€😀") quoted
+    && not (same (charsOf edgeBytes) (0x01 ∷ drop 1 edges)) && not (same (charsOf edgeBytes) (drop 1 edges)) && not (same (bytes "aÀ€😁") quoted))
 unfolding textFrom charsFrom
-well-formed = tt
+worked = tt

@@ -1,9 +1,10 @@
 -- Rules, names and the codes of their uses, by computation. Each case shuts out a wrong reading of 01. Examples from rule text to codes stand in `promises`.
 -- Assumes nothing.
 use Prim.Native.String.{String}
-use mathlib.Core.Bool.{Bool}
+use mathlib.Core.Bool.{Bool, not, _&&_}
 use mathlib.Core.List.{List, [], _∷_}
 use lib.Dec.{T}
+use Rattle.laws.specs.Lists as lists
 use Rattle.laws.specs.Lists.{every, same, splitAt}
 use Rattle.chars.specs.Utf8.{charsFrom}
 use Rattle.chars.specs.Letters.{vowel}
@@ -57,6 +58,10 @@ cases =
     ∷ record { rules = rule "a" "1" "1" "1" ∷ rule "a" "2" "2" "2" ∷ []; name = "a"; listed = "100000" }
     ∷ []
 
-pub worked : T (every holds cases)
+-- another code, a code less, a code more: none may hold
+abbrev wrong : List Case
+wrong = under "iz" "100000" ∷ under "xxch" "400000" ∷ under "xz" "100000|100000" ∷ []
+
+pub worked : T (every holds cases && not (lists.some holds wrong))
 unfolding charsFrom vowel splitAt endsWith extend met step run walk joined
 worked = tt

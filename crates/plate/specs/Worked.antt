@@ -1,11 +1,11 @@
 -- A worked plate, read back, and bytes that are no plate, by computation. Assumes nothing.
 use Prim.Native.Nat.{ℕ}
 use mathlib.Core.Path.{_≡_, refl}
-use mathlib.Core.Bool.{true, not}
+use mathlib.Core.Bool.{true, not, _&&_}
 use mathlib.Core.Option.{some}
 use mathlib.Core.List.{List, [], _∷_}
 use lib.Dec.{T}
-use Rattle.laws.specs.Lists.{every}
+use Rattle.laws.specs.Lists as lists
 use Rattle.chars.specs.Utf8.{textFrom}
 use Rattle.chars.specs.Quoted.{bytes}
 use Rattle.plate.specs.Bits.{bit, numberAt}
@@ -51,6 +51,7 @@ spoilt =
     ∷ (0x01 ∷ 0x00 ∷ 0x80 ∷ 0x20 ∷ 0x0B ∷ 0x08 ∷ 0x81 ∷ 0x02 ∷ 0x04 ∷ 0xC2 ∷ 0xC4 ∷ 0x20 ∷ 0x40 ∷ 0x80 ∷ [])
     ∷ []
 
-pub refused : T (every (λ s. not (acceptedIn edition1 s)) spoilt)
+-- The worked plate is one, and none of the spoilt ones.
+pub refused : T (acceptedIn edition1 whole && not (lists.some (acceptedIn edition1) spoilt))
 unfolding numberAt bit textFrom
 refused = tt
