@@ -105,9 +105,10 @@ bool dm_is_plate(const uint8_t *plate, size_t plate_len);
 /* One code, six digits: that of the first alternative everywhere. */
 dm_coded dm_encode(const uint8_t *plate, size_t plate_len, const uint8_t *name, size_t name_len, uint8_t *out, size_t out_len);
 
-/* All codes, six digits each, a bar between two.
- * Never sort the codes in place: their order is part of the answer. The first is the one that dm_encode gives, and the same code may
- * stand twice. Who needs them sorted or without doubles sorts a copy. */
+/* All codes, six digits each, a bar between two, no code twice.
+ * Never sort the codes in place: their order is part of the answer. The first is the one that dm_encode gives. Who needs them sorted
+ * sorts a copy. Room is measured on the branches, of which several may end in one code: a list may be refused by 12 although its codes
+ * would fit. DM_LIST_MOST bytes hold every list. */
 dm_coded dm_list(const uint8_t *plate, size_t plate_len, const uint8_t *name, size_t name_len, uint8_t *out, size_t out_len);
 
 #ifdef __cplusplus

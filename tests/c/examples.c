@@ -15,7 +15,7 @@ void examples(void) {
     listed("rh", "900000");
     listed("rha", "950000");
     listed("cc", "400000|450000|540000|500000");
-    listed("rwrwrwc", "979797|979797");
+    listed("rwrwrwc", "979797");
     listed("\xC3\x80r", "090000");
     listed("r\xE2\x80\x83h", "900000");
     listed("Rosochowaciec", "944744|944745|944754|944755|945744|945745|945754|945755");

@@ -7,7 +7,10 @@ use mathlib.Core.Bool.{Bool}
 use mathlib.Core.List.{List, [], _∷_, _++_, map}
 use native.Mathlib.Omega.{arith}
 use lib.ListN.{length}
-use Rattle.laws.specs.Lists.{In}
+use Rattle.laws.specs.Lists.{In, same}
+use Rattle.laws.specs.Once.{once}
+use Rattle.laws.proofs.Once.{Distinct, once-has, once-from, once-first, once-distinct}
+use Rattle.laws.proofs.Same.{same-equal, equal-same}
 use Rattle.laws.proofs.Members.{in-left, in-map, map-in}
 use Rattle.branches.specs.Branches.{Branch, Use, extend, step, run, start, code, codes}
 use Rattle.branches.specs.Choice.{Chosen, follow, yielded, Filled, first, firsts, firstOnly, Wider, Starts}
@@ -35,17 +38,22 @@ run-from (u ∷ us) bs x h =
     (s .0, s .1, s .2 .0 ∷ r .2, (s .2 .1, r .3), r .4 ∙ ap (follow us (r .2)) (s .2 .2))
 
 pub chosen-listed : (us : List Use) (choice : List (List ℕ)) → Chosen us choice → In (yielded us choice) (codes us)
-chosen-listed us choice c = in-map code (follow us choice empty) (run us start) (run-has us start empty choice (inl refl) c)
+chosen-listed us choice c =
+    once-has same same-equal (yielded us choice) (map code (run us start)) (in-map code (follow us choice empty) (run us start) (run-has us start empty choice (inl refl) c))
 
 pub listed-chosen : (us : List Use) (k : List ℕ) → In k (codes us) → (choice : List (List ℕ)) × Chosen us choice × (k ≡ yielded us choice)
 listed-chosen us k h =
-    let m = map-in code k (run us start) h in
+    let m = map-in code k (run us start) (once-from same k (map code (run us start)) h) in
     let r = run-from us start (m .0) (m .1) in
     (r .2, r .3, m .2 ∙ ap code (r .4 ∙ ap (follow us (r .2)) (one (r .0) (r .1))))
   where
     one : (b : Branch) → In b start → b ≡ empty
     one b (inl e) = e
     one b (inr i) = absurd i
+
+-- No code is listed twice.
+pub listed-once : (us : List Use) → Distinct (codes us)
+listed-once us = once-distinct same equal-same (map code (run us start))
 
 -- ---- the first code is that of the first alternatives
 
@@ -58,7 +66,9 @@ run-first (u ∷ us) b bs h =
     (run-first us (extend (u .anyway) (first (u .alternatives)) b) (s .0) (h .1))
 
 pub first-listed : (us : List Use) → Filled us → Starts (yielded us (firsts us)) (codes us)
-first-listed us h = let r = run-first us empty [] h in (map code (r .0), ap (map code) (r .1))
+first-listed us h =
+    let r = run-first us empty [] h in
+    subst (λ (l : List Branch). Starts (yielded us (firsts us)) (once same (map code l))) (sym (r .1)) (once-first same (yielded us (firsts us)) (map code (r .0)))
 
 -- The first alternatives alone give that one branch.
 pub run-firsts : (us : List Use) (b : Branch) → Filled us → run (map firstOnly us) (b ∷ []) ≡ follow us (firsts us) b ∷ []
@@ -73,7 +83,7 @@ run-firsts (u ∷ us) b h = go (u .alternatives) (h .0) (λ d. run-firsts us d (
         ap (run (map firstOnly us)) (one-stays (firstOnly (record { alternatives = a ∷ more; anyway = u .anyway })) b a refl) ∙ below (extend (u .anyway) a b)
 
 pub firsts-alone : (us : List Use) → Filled us → codes (map firstOnly us) ≡ yielded us (firsts us) ∷ []
-firsts-alone us h = ap (map code) (run-firsts us empty h)
+firsts-alone us h = ap (λ (l : List Branch). once same (map code l)) (run-firsts us empty h)
 
 -- ---- wider uses: every code is still listed, and the first is the same
 

@@ -57,9 +57,9 @@ store-ok items n b ok h p = record {
   each = rw (stored items n b ok h) (each-behind BranchOk (take n items) b (ok .each) p);
 }
 
-pub store-view : (items : List one.Branch) (n : ℕ) (b : one.Branch) → Front items n → n < 64
-    → map branchOf (take n items) ++ (branchOf b ∷ []) ≡ map branchOf (take (n + 1) (set items n b))
-store-view items n b ok h = sym (ap (map branchOf) (stored items n b ok h) ∙ map-append branchOf (take n items) (b ∷ []))
+pub store-view : {A : Type 0} (view : one.Branch → A) (items : List one.Branch) (n : ℕ) (b : one.Branch) → Front items n → n < 64
+    → map view (take n items) ++ (view b ∷ []) ≡ map view (take (n + 1) (set items n b))
+store-view view items n b ok h = sym (ap (map view) (stored items n b ok h) ∙ map-append view (take n items) (b ∷ []))
 
 -- Behind it the array is as it was.
 pub store-behind : (items current : List one.Branch) (n : ℕ) (b : one.Branch) → drop n items ≡ drop n current → drop (n + 1) (set items n b) ≡ drop (n + 1) current

@@ -5,3 +5,4 @@ pub mod Merging
 pub mod Choice
 pub mod Room
 pub mod Only
+pub mod Codes

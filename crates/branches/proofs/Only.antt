@@ -5,8 +5,8 @@ use mathlib.Core.Path.{_≡_, refl, sym, ap, ap₂, _∙_}
 use mathlib.Core.Bool.{Bool, cond}
 use mathlib.Core.List.{List, [], _∷_, _++_, map, nil≢cons, cons≢nil, head-eq-of-cons-eq, tail-eq-of-cons-eq}
 use native.Mathlib.Omega.{arith}
-use lib.ListN.{length, take, drop, replicate, take-append-drop}
-use lib.Seq.{length-take-le}
+use lib.ListN.{length, take, drop, replicate, take-append-drop, drop-of-length-le}
+use lib.Seq.{length-take-le, take-all}
 use Rattle.laws.specs.Arrays.{Each}
 use Rattle.laws.proofs.Arrays.{by-halves}
 use Rattle.laws.proofs.Only.{only}
@@ -61,6 +61,13 @@ padded b p =
     let n : length (take (b .count) (b .digits)) ≡ b .count = length-take-le (b .count) (b .digits) (omega arith) in
     ap (λ (k : ℕ). take (b .count) (b .digits) ++ replicate (6 - k) 48) n ∙ ap (λ (r : List ℕ). take (b .count) (b .digits) ++ r) (sym (p .0 .clear))
     ∙ take-append-drop (b .count) (b .digits)
+
+-- All six digits count.
+pub whole-digits : (l : List ℕ) (n : ℕ) → DigitsOk l n → DigitsOk l 6
+whole-digits l n ok = let six = ok .six in record { small = omega arith; six = six; clear = drop-of-length-le l {i = 6} (omega arith) }
+
+pub code-held : (b : Branch) → BranchOk b → take 6 (b .digits) ≡ defined.code (branchOf b)
+code-held b p = let six = p .0 .six in take-all 6 (b .digits) (omega arith) ∙ sym (padded b p)
 
 -- ---- each public function
 

@@ -1,10 +1,11 @@
 -- Branches. 01, "From name to codes". Digits are ASCII. Assumes nothing.
 use Prim.Native.Nat.{ℕ, _-_}
-use mathlib.Core.Bool.{Bool, false, cond, not, _&&_, _||_}
+use mathlib.Core.Bool.{Bool, cond, not, _&&_, _||_}
 use mathlib.Core.List.{List, [], _∷_, _++_, map}
 use lib.Dec.{ltb, leb}
 use lib.ListN.{length, take, drop, replicate}
 use Rattle.laws.specs.Lists.{same}
+use Rattle.laws.specs.Once.{once}
 
 -- "A branch is its digits so far, at most six, and its last replacement." No last replacement yet is the empty one: with it only the empty alternative is
 -- an end of the last replacement, and appending nothing changes nothing; and the one branch at the start stands alone, so that merging cannot tell the
@@ -40,17 +41,9 @@ met u (b ∷ more) = map (λ a. extend (u .anyway) a b) (u .alternatives) ++ met
 abbrev pub sameBranch : Branch → Branch → Bool
 sameBranch b c = same (b .digits) (c .digits) && same (b .last) (c .last)
 
-abbrev pub among : Branch → List Branch → Bool
-among b [] = false
-among b (c ∷ more) = sameBranch b c || among b more
-
-abbrev pub merge : List Branch → List Branch → List Branch
-merge kept [] = kept
-merge kept (b ∷ more) = merge (cond (among b kept) kept (kept ++ (b ∷ []))) more
-
 -- One step of all branches.
 unfoldable pub step : Use → List Branch → List Branch
-step u bs = merge [] (met u bs)
+step u bs = once sameBranch (met u bs)
 
 -- The branches behind all uses.
 unfoldable pub run : List Use → List Branch → List Branch
@@ -66,5 +59,6 @@ over room (u ∷ more) bs = ltb room (length bs) || over room more (step u bs)
 abbrev pub code : Branch → List ℕ
 code b = b .digits ++ replicate (6 - length (b .digits)) 48
 
+-- 02, M-105: "Drop a code equal to an earlier one when writing; the first place stays."
 abbrev pub codes : List Use → List (List ℕ)
-codes us = map code (run us start)
+codes us = once same (map code (run us start))

@@ -45,8 +45,11 @@ cases =
     ∷ case (takes "6" ∷ forced "6" ∷ []) "660000"
     -- `mon`: the empty alternative becomes the last replacement
     ∷ case (takes "6" ∷ takes "" ∷ takes "6" ∷ []) "660000"
-    -- `rwrwrwc`: merging asks for the last replacement too, which is set although the code is full
-    ∷ case (takes "9" ∷ takes "7" ∷ takes "9" ∷ takes "7" ∷ takes "9" ∷ takes "7" ∷ takes "4|5" ∷ []) "979797|979797"
+    -- `rwrwrwc`: two branches, and the one code of both is listed once
+    ∷ case (takes "9" ∷ takes "7" ∷ takes "9" ∷ takes "7" ∷ takes "9" ∷ takes "7" ∷ takes "4|5" ∷ []) "979797"
+    -- `xzx`, with `x` `1|2` and `z` 123456: four branches, two codes; each stays where it stood first
+    ∷ case (takes "1|2" ∷ takes "123456" ∷ takes "1|2" ∷ []) "112345|212345"
+    ∷ case (takes "4|5" ∷ takes "1|2" ∷ takes "123456" ∷ takes "4|5" ∷ []) "411234|421234|511234|521234"
     -- `z` with `4|4`: equal in both is dropped
     ∷ case (takes "4|4" ∷ []) "400000"
     -- `cc`: each branch, in order, meets each alternative, in order
@@ -71,6 +74,14 @@ unfolding splitAt endsWith extend met step run
 worked = tt
 
 -- "the branch list, at the start or after some step, is longer than room": room for one does not hold the two of the middle, nor none the start
-pub room : T (over 1 (takes "123456" ∷ takes "4|5" ∷ takes "123456" ∷ []) start && (not (over 2 (takes "123456" ∷ takes "4|5" ∷ takes "123456" ∷ []) start) && over 0 [] start))
+-- `rwrwrwc` has one code and two branches: merging asks for the last replacement too, which is set although the code is full
+abbrev full : List Use
+full = takes "9" ∷ takes "7" ∷ takes "9" ∷ takes "7" ∷ takes "9" ∷ takes "7" ∷ takes "4|5" ∷ []
+
+pub room : T (
+    over 1 (takes "123456" ∷ takes "4|5" ∷ takes "123456" ∷ []) start
+    && (not (over 2 (takes "123456" ∷ takes "4|5" ∷ takes "123456" ∷ []) start)
+    && (over 0 [] start && (over 1 full start && not (over 2 full start))))
+    )
 unfolding splitAt endsWith extend met step over
 room = tt

@@ -1,10 +1,11 @@
 // Branches: a branch, its extension by an alternative, and one step of all branches. 01, "From name to codes".
 ghost use mathlib.Core.Path.{_≡_};
 ghost use mathlib.Core.Bool.{true};
-ghost use mathlib.Core.List.{[], _++_};
+ghost use mathlib.Core.List.{[], _++_, map};
 ghost use Prim.Native.Nat.{_≤_, min};
 ghost use lib.ListN.{take};
 ghost use Rattle.laws.specs.Lists.{same};
+ghost use Rattle.laws.specs.Once.{once};
 ghost use Rattle.plate.specs.Field.{DigitsOk, AlternativeOk, alternativeOf, FieldOk};
 ghost use Rattle.branches.specs.Branches as defined;
 ghost use Rattle.branches.specs.Held.{BranchOk, branchOf, blankBranch, ItemsOk, Front, BlankBehind, BranchesOk, branchesOf, useOf, Answered};
@@ -221,5 +222,44 @@ pub fn step(bs: Branches, f: Field, anyway: bool, room: usize) -> Stepped
     Stepped {
         next: out,
         over: false,
+    }
+}
+
+// The codes are the same: all six digits, zeros filled in.
+fn same_code(b: Branch, c: Branch) -> bool
+    requires { ⌜ BranchOk b × BranchOk c ⌝ }
+    ensures { λ r. ⌜ r ≡ same (defined.code (branchOf b)) (defined.code (branchOf c)) ⌝ }
+{
+    let digits = b.digits;
+    let others = c.digits;
+    same_digits(digits, 6, others, 6)
+}
+
+// "Drop a code equal to an earlier one when writing; the first place stays." The first branch of each code, once the last step is made.
+pub fn once_each(bs: Branches) -> Branches
+    requires { ⌜ BranchesOk bs ⌝ }
+    ensures { λ r. ⌜ BranchesOk r × (map defined.code (branchesOf r) ≡ once same (map defined.code (branchesOf bs))) × (r .count ≤ bs .count) ⌝ }
+{
+    let n = bs.count;
+    if n < 2 {
+        return bs;
+    }
+    let current = bs.items;
+    let mut next = current;
+    let mut m = 0;
+    'branches: for i in 0..n {
+        let b = current[i];
+        for h in 0..m {
+            let kept = next[h];
+            if same_code(b, kept) {
+                continue 'branches;
+            }
+        }
+        next[m] = b;
+        m += 1;
+    }
+    Branches {
+        items: cleared(next, m, n),
+        count: m,
     }
 }

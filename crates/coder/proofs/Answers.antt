@@ -7,7 +7,8 @@ use mathlib.Core.Option.{Option, none, some}
 use mathlib.Core.List.{List, [], map}
 use lib.Dec.{ltb}
 use lib.ListN.{length, length-map}
-use Rattle.laws.specs.Lists.{every}
+use Rattle.laws.specs.Lists.{every, same}
+use Rattle.laws.specs.Once.{once}
 use Rattle.chars.specs.Utf8.{isText, charsOf}
 use Rattle.plate.specs.Plate.{Plate, edition1}
 use Rattle.plate.specs.Read.{plateAt, acceptedIn}
@@ -55,10 +56,11 @@ module _ (us : List Use) (lent : List ℕ) (n : ℕ) (e : n ≡ smaller 64 ((len
   pub within : o ≡ false → length bs ≤ n
   within g = subst (λ (l : List Branch). length l ≤ n) (sym (says .1 g)) (run-fits n us start (says .0 ∙ g))
 
-  pub all-listed : o ≡ false → (k : ℕ) (buffer : List ℕ) → length bs ≡ k → buffer ≡ listing (map code bs) lent .buffer → record { number = 0; count = k; buffer = buffer } ≡ listed us lent
-  all-listed g k buffer j l =
-      sym (by-room false g ∙ ap (λ (x : List Branch). listing (map code x) lent) (sym (says .1 g))
-      ∙ (λ y. record { number = 0; count = (length-map bs code ∙ j) y; buffer = sym l y }))
+  pub all-listed : o ≡ false → (cs : List (List ℕ)) → cs ≡ once same (map code bs) → (k : ℕ) (buffer : List ℕ) → length cs ≡ k → buffer ≡ listing cs lent .buffer
+      → record { number = 0; count = k; buffer = buffer } ≡ listed us lent
+  all-listed g cs e k buffer j l =
+      sym (by-room false g ∙ ap (λ (x : List (List ℕ)). listing x lent) (ap (λ (x : List Branch). once same (map code x)) (sym (says .1 g)) ∙ sym e)
+      ∙ (λ y. record { number = 0; count = j y; buffer = sym l y }))
 
 -- ---- list and encode
 

@@ -25,7 +25,7 @@ fn room_of(n: usize) -> usize
     if 64 <= m { 64 } else { m }
 }
 
-// The codes of some characters, written into the buffer if there is room.
+// The codes of some characters, each written once, if there is room for their branches.
 fn code_chars(
     plate: &[u8],
     places: &[u32],
@@ -41,7 +41,7 @@ fn code_chars(
     if ran.over {
         return Coded::RoomTooSmall;
     }
-    let bs = ran.next;
+    let bs = branches::once_each(ran.next);
     write(out, bs);
     Coded::Codes(bs.count)
 }

@@ -9,3 +9,4 @@ pub mod Parts
 pub mod Arrays
 pub mod Same
 pub mod Members
+pub mod Once

@@ -3,12 +3,13 @@ use Prim.Native.Nat.{ℕ, zero, suc, _-_, _+_, _*_, _/_, _<_, _≤_}
 use mathlib.Core.Path.{_≡_, refl, sym, ap, subst, _∙_}
 use mathlib.Core.Logic.{inl, inr}
 use mathlib.Core.Bool.{Bool, true, false, _&&_, false≢true}
-use mathlib.Core.List.{List, [], _∷_, _++_, append-nil, append-assoc}
+use mathlib.Core.List.{List, [], _∷_, _++_, map, append-nil, append-assoc}
 use native.Mathlib.Omega.{arith}
 use borrow.Author.Tests.{leb-true, ltb-false}
 use lib.Dec.{ltb, leb}
 use lib.ListN.{length, drop, length-map}
-use Rattle.laws.specs.Lists.{In, every}
+use Rattle.laws.specs.Lists.{In, every, same}
+use Rattle.laws.proofs.Once.{once-short}
 use Rattle.laws.specs.Arrays.{Each}
 use Rattle.laws.proofs.Tests.{by-test}
 use Rattle.laws.proofs.Parts.{by-lt}
@@ -146,6 +147,7 @@ module _ (plate name lent : List ℕ) (bytes : Bytes plate) where
       let a = passed 10 (listAnswer plate name lent .number) (omega arith) n (list-number plate name lent bytes) in
       let never = name-passed name (Overfull plate name lent) (listAnswer plate name lent .number) n (a .1) in
       let many = length-map (run (usesIn p name) start) code in
+      let fewer = once-short same (map code (run (usesIn p name) start)) in
       by-lt (room lent) (length (run (usesIn p name) start)) (λ h. absurd (never (p, w, usesIn p name, [], sym (append-nil (usesIn p name)), h))) (λ h. omega arith)
 
   pub list-gives : ListGives plate name lent (listAnswer plate name lent)

@@ -10,3 +10,4 @@ pub mod Matches
 pub mod Wider
 pub mod Largest
 pub mod Calls
+pub mod Once

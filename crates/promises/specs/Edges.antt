@@ -73,7 +73,7 @@ cases =
     ∷ Codes textS true (accents 128) 6 (bytes "000000")
     ∷ BadName textS true (accents 129) 6 1
     -- a full code still branches: the two differ in their last replacement, cut or not
-    ∷ Codes six true (bytes "yw") 13 (bytes "123456|123456")
+    ∷ Codes six true (bytes "yw") 13 (bytes "123456")
     ∷ BadName six true (bytes "yw") 12 12
     -- an equal branch is dropped wherever the earlier one stands; a field that ends with a bar ends with an empty alternative
     ∷ under (withRule "\"z\" \"4|5|4\" \"4|5|4\" \"4|5|4\"") "z" "400000|500000"

@@ -6,3 +6,4 @@ pub mod Said
 pub mod When
 pub mod Demands
 pub mod Pair
+pub mod Once

@@ -58,7 +58,7 @@ cases =
     ∷ underS "rh" "900000"
     ∷ underS "rha" "950000"
     ∷ underS "cc" "400000|450000|540000|500000"
-    ∷ underS "rwrwrwc" "979797|979797"
+    ∷ underS "rwrwrwc" "979797"
     -- "S with one more rule, `z` with `4|4` in all three: `z` lists `400000` alone."
     ∷ under (textS ++ bytes "\"z\" \"4|4\" \"4|4\" \"4|4\"\n") "z" "400000"
     ∷ []

@@ -2,6 +2,7 @@
 // it is proved exactly if what the calls promise is enough. A call that promised less would not prove it (tests/weakened).
 ghost use Rattle.zengilvar.specs.Numbers.{built, coded};
 ghost use Rattle.promises.specs.Demands.{BuildRefuses, BuildGives, ListRefuses, ListGives, EncodeRefuses, EncodeGives, ListsChoices, EncodesFirst, PlatesKeep, TextsKeep, GivenAgain};
+ghost use Rattle.promises.specs.Once.{ListsOnce};
 use zengilvar::DmBuilt;
 use zengilvar::DmCoded;
 use zengilvar::dm_build;
@@ -96,4 +97,11 @@ fn given_again(plate: &[u8], name: &[u8], out: &mut [u8], longer: &mut [u8]) -> 
         first: first,
         second: second,
     }
+}
+
+// M-105: list gives each code once.
+fn lists_once(plate: &[u8], name: &[u8], out: &mut [u8]) -> DmCoded
+    ensures { λ r. ⌜ ListsOnce (coded r (now (out .exit))) ⌝ }
+{
+    dm_list(plate, name, out)
 }

@@ -4,13 +4,13 @@
 //! noticed: what is noticed of the others is then their mistake.
 
 use crate::calls::Calls;
-use judge::codes::{allowed, BRANCHES, WHITE};
+use judge::codes::{allowed, once, BRANCHES, WHITE};
 use judge::{plate, text, Content, Rule};
 use std::cell::RefCell;
 use zengilvar::raw::{Built, Coded};
 
 /// Every mistake: its name, and what the coder does.
-pub const MISTAKES: [(&str, &str); 39] = [
+pub const MISTAKES: [(&str, &str); 42] = [
     ("length_rising", "sorts patterns of one letter by length rising"),
     ("text_order_reversed", "sorts patterns of one length against the text's order"),
     ("line_of_8", "tells one line more with refusal 8"),
@@ -47,7 +47,10 @@ pub const MISTAKES: [(&str, &str); 39] = [
     ("digits_alone", "drops branches that are equal in digits alone"),
     ("not_merged", "drops no branch"),
     ("sorted", "sorts the codes"),
-    ("each_once", "lists each code once"),
+    ("doubles", "lists a code as often as it has branches"),
+    ("doubles_apart", "drops a code only behind an equal one"),
+    ("last_place", "keeps the last place of a code, not the first"),
+    ("room_of_codes", "measures the room by the codes"),
     ("zero_behind_codes", "puts a zero behind the codes"),
     ("any_plate", "says of any bytes that they are a plate"),
 ];
@@ -238,10 +241,18 @@ impl Wrong {
         Some(next)
     }
 
+    /// How many count against the room.
+    fn held(&self, branches: &[Branch]) -> usize {
+        match self.is("room_of_codes") {
+            true => once(branches.iter().map(|branch| branch.digits.clone())).len(),
+            false => branches.len(),
+        }
+    }
+
     /// The codes of a name, or 12.
     fn walk(&self, content: &Content, source: &[char], room: usize, list: bool) -> Result<Vec<String>, u64> {
         let mut branches = vec![Branch { digits: String::new(), last: String::new() }];
-        let is_over = |branches: &[Branch]| list && branches.len() > room;
+        let is_over = |branches: &[Branch]| list && self.held(branches) > room;
         if is_over(&branches) {
             return Err(12);
         }
@@ -279,15 +290,20 @@ impl Wrong {
         if self.is("sorted") {
             codes.sort();
         }
-        if self.is("each_once") {
-            let all = std::mem::take(&mut codes);
-            for code in all {
-                if !codes.contains(&code) {
-                    codes.push(code);
-                }
+        match self.mistake {
+            "doubles" => codes,
+            "doubles_apart" => {
+                codes.dedup();
+                codes
             }
+            "last_place" => {
+                codes.reverse();
+                let mut kept = once(codes);
+                kept.reverse();
+                kept
+            }
+            _ => once(codes),
         }
-        codes
     }
 
     fn code(&self, plate: &[u8], name: &[u8], out: &mut [u8], list: bool) -> Coded {

@@ -74,12 +74,12 @@ pub fn code(name: &Result<Walked, u64>, lent: usize) -> Coded {
 }
 
 /// Where the Rust's codes are not those of the walk, though they must be: under patterns of ASCII, for a name that is
-/// coded. `None` where there is nothing to compare or all is equal; else the Rust's codes.
+/// coded; the doubles of the Rust's list are struck. `None` where there is nothing to compare or all is equal; else the Rust's codes.
 pub fn rust_differs(coder: &Coder, name: &[u8], call: Call, walked: &Walked) -> Option<Vec<String>> {
     if walked.foreign || walked.longest > BRANCHES {
         return None;
     }
     let name = std::str::from_utf8(name).ok()?;
-    let codes = coder.inner_soundex(name, call == Call::List);
+    let codes = codes::once(coder.inner_soundex(name, call == Call::List));
     (codes != walked.codes).then_some(codes)
 }

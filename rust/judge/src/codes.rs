@@ -27,7 +27,7 @@ struct Branch {
 /// How a name was walked.
 #[derive(Debug, Clone, PartialEq, Eq)]
 pub struct Walked {
-    /// The codes, in order; none if more branches came up than are ever held.
+    /// The codes, in order, each once; none if more branches came up than are ever held.
     pub codes: Vec<String>,
     /// The longest branch list, at the start or after some step; the walk ends behind one over 64.
     pub longest: usize,
@@ -40,6 +40,17 @@ enum Found<'a> {
     NoGroup,
     NoMatch,
     Rule { rule: &'a Rule, length: usize },
+}
+
+/// Each code once, the first place stays (M-105). The Rust lists doubles: they are struck from its list.
+pub fn once(codes: impl IntoIterator<Item = String>) -> Vec<String> {
+    let mut listed = Vec::new();
+    for code in codes {
+        if !listed.contains(&code) {
+            listed.push(code);
+        }
+    }
+    listed
 }
 
 /// Walks a name whose characters are all allowed.
@@ -76,7 +87,7 @@ pub fn walk(content: &Content, name: &str, branching: bool) -> Walked {
         }
         before = Some(first);
     }
-    walked.codes = branches.iter().map(|branch| format!("{:0<6}", branch.digits)).collect();
+    walked.codes = once(branches.iter().map(|branch| format!("{:0<6}", branch.digits)));
     walked
 }
 

@@ -3,12 +3,12 @@
 //! `vectors FOLDER` writes vectors-1.txt, vectors-2.txt and so on, each under 65,536 bytes, so that one buffer of that
 //! size takes a file. The form is said in the first lines of each file. The same list is written every time.
 //!
-//! Codes and counts are the Rust's. A list into a short buffer is expected to be refused (12) only where the Rust's own
+//! Codes and counts are the Rust's, later doubles struck (M-105). A list into a short buffer is expected to be refused (12) only where the Rust's own
 //! last list is longer than the room. No name is taken whose branch list was longer on the way than the room, none that
 //! is refused for another reason, and none that meets a pattern outside ASCII. Plates are written by the crate `judge`.
 
 use judge::answers::{self, Call};
-use judge::codes::BRANCHES;
+use judge::codes::{once, BRANCHES};
 use judge::made;
 use judge::random::Random;
 use judge::{SMALL, STANDARD};
@@ -43,9 +43,10 @@ impl Files {
         self.line(&line, false);
     }
 
-    fn record(&mut self, call: Call, name: &str, lent: usize, codes: &[String]) {
+    /// The codes, for which this many branches were held.
+    fn record(&mut self, call: Call, name: &str, lent: usize, branches: usize, codes: &[String]) {
         let letter = if call == Call::List { 'l' } else { 'e' };
-        let (number, count, written) = match codes.len() <= answers::room(lent) {
+        let (number, count, written) = match branches <= answers::room(lent) {
             true => (0, codes.len(), codes.join("|")),
             false => (12, 0, "-".to_string()),
         };
@@ -105,18 +106,18 @@ fn name(files: &mut Files, rules: &Rules, name: &str, edges: bool) {
     if walked.foreign || walked.longest > BRANCHES {
         return;
     }
-    let listed = rules.coder.inner_soundex(name, true);
-    let exact = 7 * listed.len() - 1;
+    let branches = rules.coder.inner_soundex(name, true);
+    let exact = 7 * branches.len() - 1;
     let lents = if edges { vec![exact - 1, exact, exact + 1, 447] } else { vec![exact] };
     for lent in lents {
         let room = answers::room(lent);
-        if listed.len() > room || walked.longest <= room {
-            files.record(Call::List, name, lent, &listed);
+        if branches.len() > room || walked.longest <= room {
+            files.record(Call::List, name, lent, branches.len(), &once(branches.clone()));
         }
     }
     let encoded = rules.coder.inner_soundex(name, false);
     for lent in if edges { vec![5, 6, 7] } else { vec![6] } {
-        files.record(Call::Encode, name, lent, &encoded);
+        files.record(Call::Encode, name, lent, 1, &encoded);
     }
 }
 
@@ -163,7 +164,7 @@ fn all(files: &mut Files) {
     let letters = rules(files, "S and foldings and rules of other letters", &text, true).expect("a good text");
     for c in (0..0x180).filter_map(char::from_u32) {
         let listed = letters.coder.inner_soundex(&format!("r{c}a"), true);
-        files.record(Call::List, &format!("r{c}a"), 447, &listed);
+        files.record(Call::List, &format!("r{c}a"), 447, listed.len(), &once(listed));
     }
     let mut random = Random::new(1);
     let standard = rules(files, "the standard rules", STANDARD, true).expect("the standard rules are built");

@@ -9,7 +9,8 @@ use borrow.Author.Needs.{needs}
 use lib.ListN.{take, drop}
 use Rattle.laws.proofs.Tests.{told}
 use Rattle.plate.specs.Field.{alternativeOf}
-use Rattle.branches.specs.Branches.{met, among, merge}
+use Rattle.branches.specs.Branches.{met, sameBranch}
+use Rattle.laws.specs.Once.{among, merge}
 use Rattle.branches.specs.Held.{branchOf, Front, useOf}
 use Rattle.branches.specs.Branches as defined
 use Rattle.branches.proofs.Holding.{front, front-none, item-ok, items-count, store-ok, store-view, store-behind, blank-behind, fits}
@@ -19,7 +20,7 @@ use Rattle.branches.proofs.step.Tie as tie
 
 abbrev Inv-loop2 : tie.InvT-loop2
 Inv-loop2 anyway room f current n k next m i b j₀ e h₀ j h =
-    (h ≤ m) × (j ≡ j₀) × (among (branchOf e) (map branchOf (drop h (take m next))) ≡ among (branchOf e) (map branchOf (take m next)))
+    (h ≤ m) × (j ≡ j₀) × (among sameBranch (branchOf e) (map branchOf (drop h (take m next))) ≡ among sameBranch (branchOf e) (map branchOf (take m next)))
 
 abbrev μ-loop2 : tie.MeasureT-loop2
 μ-loop2 anyway room f current n k next m i b j₀ e h₀ j h = m - h
@@ -37,7 +38,7 @@ abbrev μ-alternatives : tie.MeasureT-alternatives
 abbrev Inv-loop : tie.InvT-loop
 Inv-loop anyway room f current n k next₀ m₀ i₀ next m i =
     (i ≤ n) × (m ≤ room) × Front next m × (drop m next ≡ drop m current) × (
-    merge (map branchOf (take m next)) (met (useOf f anyway) (map branchOf (drop i (take n current)))) ≡ defined.step (useOf f anyway) (map branchOf (take n current))
+    merge sameBranch (map branchOf (take m next)) (met (useOf f anyway) (map branchOf (drop i (take n current)))) ≡ defined.step (useOf f anyway) (map branchOf (take n current))
     )
 
 abbrev μ-loop : tie.MeasureT-loop
@@ -104,7 +105,7 @@ alternatives-again c =
     let seen = c .before .before .before .before .loop2 .inv in
     let same = seen .1 in
     let equal = told (c .before .same-branch .ensures) (c .if1 .taken) in
-    let old = among-hit _ _ _ _ (i .2) _ (seen .2) (c .before .before .before .loop2-test .taken) equal in
+    let old = among-hit sameBranch branchOf _ _ _ _ (i .2) _ (seen .2) (c .before .before .before .loop2-test .taken) equal in
     let here =
     dropped (useOf (s .args .t2) (s .args .anyway)) _ _ _ _ (s .args .t2) _ _ (s .pre .1) (c .before .before .before .before .before .before .before .alternatives-test .taken) (c .before .before .before .before .before .extend .ensures .1) (i .4) _ same (sym old) in
     (omega arith, i .1, i .2, i .3, here)
@@ -121,7 +122,7 @@ loop2-again c =
     let i = c .before .before .before .before .before .before .before .before .alternatives .inv in
     let seen = c .before .before .before .before .loop2 .inv in
     let other = told (c .before .same-branch .ensures) (c .if1 .left) in
-    (omega arith, seen .1, among-turn _ _ _ _ (i .2) _ (seen .2) (c .before .before .before .loop2-test .taken) other)
+    (omega arith, seen .1, among-turn sameBranch branchOf _ _ _ _ (i .2) _ (seen .2) (c .before .before .before .loop2-test .taken) other)
 
 too-many-requires :
     tie.Need-too-many-requires Inv-loop2 μ-loop2 Inv-alternatives μ-alternatives Inv-loop μ-loop
@@ -132,7 +133,7 @@ returns c =
     let s = c .before .before .before .before .before .before .before .before .before .before .before .before in
     let i = c .before .before .before .before .before .before .before .alternatives .inv in
     let r = c .too-many .ensures in
-    let new = among-end _ _ _ _ (i .2) _ (c .before .before .before .loop2 .inv .2) (c .before .before .loop2-test .left) in
+    let new = among-end sameBranch branchOf _ _ _ _ (i .2) _ (c .before .before .before .loop2 .inv .2) (c .before .before .loop2-test .left) in
     let count = items-count _ _ (i .2) in
     let over =
     too-many (useOf (s .args .t2) (s .args .anyway)) _ _ _ _ (s .args .t2) _ _ (s .pre .1) (c .before .before .before .before .before .before .alternatives-test .taken) (c .before .before .before .before .extend .ensures .1) (i .4) _ _ count (c .before .if2 .taken) (sym new) in
@@ -165,8 +166,8 @@ alternatives-again-2 c =
     let room = s .pre .2 in
     let same = c .before .before .loop2 .inv .1 in
     let below : l .m < 64 = omega arith in
-    let new = among-end _ _ _ _ (i .2) _ (c .before .before .loop2 .inv .2) (c .before .loop2-test .left) in
-    let behind = store-view _ _ _ (i .2) below in
+    let new = among-end sameBranch branchOf _ _ _ _ (i .2) _ (c .before .before .loop2 .inv .2) (c .before .loop2-test .left) in
+    let behind = store-view branchOf _ _ _ (i .2) below in
     let here =
     kept (useOf (s .args .t2) (s .args .anyway)) _ _ _ _ (s .args .t2) _ _ (s .pre .1) (c .before .before .before .before .before .alternatives-test .taken) (e .1) (i .4) _ same _ behind (sym new) in
     (omega arith, omega arith, store-ok _ _ _ (i .2) below (e .0), store-behind (l .next) (s .args .bs .items) (l .m) _ (i .3), here)
