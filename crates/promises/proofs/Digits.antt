@@ -82,7 +82,7 @@ walk-usable rs h before zero (c ∷ cs) =
     every-append usable (p .uses) (walk rs (p .before) (p .skip) cs)
     ∙ both-true (passed-usable before c cs (group rs c) (every-keep goodRule (λ r. startsWith c (letters r)) rs h)) (walk-usable rs h (p .before) (p .skip) cs)
 
-pub uses-usable : (p : Plate) (name : List ℕ) → goodPlate edition1 p ≡ true → every usable (usesIn p name) ≡ true
+uses-usable : (p : Plate) (name : List ℕ) → goodPlate edition1 p ≡ true → every usable (usesIn p name) ≡ true
 uses-usable p name g =
     let a = and-true (goodRules 512 (p .rules)) (goodFoldings (p .foldings)) g in
     let b = and-true (leb (length (p .rules)) 512) (every goodRule (p .rules) && ordered (p .rules)) (a .0) in

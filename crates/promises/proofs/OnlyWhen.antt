@@ -7,11 +7,12 @@ use mathlib.Core.Bool.{Bool, true}
 use mathlib.Core.List.{List, [], _∷_, _++_}
 use native.Mathlib.Omega.{arith}
 use lib.Dec.{eqb}
+use lib.ListN.{length}
 use Rattle.laws.specs.Lists.{In, some}
 use Rattle.rule_text.specs.Items.{Item, items, firstLine, lineBehind}
 use Rattle.rule_text.specs.Items.Item.{RuleItem, FoldingItem, LineEndItem, CommentItem, UnknownItem}
 use Rattle.promises.specs.Demands.{buildNumbers, codeNumbers}
-use Rattle.promises.specs.When.{Check, NameNumber, ListNumber, EncodeNumber, FieldNumber, ItemNumber, ItemsNumber, BuildNumber}
+use Rattle.promises.specs.When.{Check, Overfull, NameNumber, ListNumber, EncodeNumber, FieldNumber, ItemNumber, ItemsNumber, BuildNumber, Exclusive}
 use Rattle.promises.proofs.Said.{some-in}
 
 -- ---- two numbers
@@ -25,14 +26,14 @@ check-only m f (inr a) (inr b) = f (a .1) (b .1)
 answered : {n n′ : ℕ} → n ≡ 0 → n′ ≡ 0 → n ≡ n′
 answered a b = a ∙ sym b
 
-pub name-only : (name : List ℕ) (full : Type 0) (n n′ : ℕ) → NameNumber name full n → NameNumber name full n′ → n ≡ n′
+name-only : (name : List ℕ) (full : Type 0) (n n′ : ℕ) → NameNumber name full n → NameNumber name full n′ → n ≡ n′
 name-only name full n n′ = check-only 1 (check-only 2 (check-only 11 (check-only 12 answered)))
 
-pub list-only : (plate name lent : List ℕ) (n n′ : ℕ) → ListNumber plate name lent n → ListNumber plate name lent n′ → n ≡ n′
-list-only plate name lent n n′ = check-only 10 (check-only 1 (check-only 2 (check-only 11 (check-only 12 answered))))
+list-only : (plate name lent : List ℕ) (n n′ : ℕ) → ListNumber plate name lent n → ListNumber plate name lent n′ → n ≡ n′
+list-only plate name lent n n′ = check-only 10 (name-only name (Overfull plate name lent) n n′)
 
-pub encode-only : (plate name lent : List ℕ) (n n′ : ℕ) → EncodeNumber plate name lent n → EncodeNumber plate name lent n′ → n ≡ n′
-encode-only plate name lent n n′ = check-only 10 (check-only 1 (check-only 2 (check-only 11 (check-only 12 answered))))
+encode-only : (plate name lent : List ℕ) (n n′ : ℕ) → EncodeNumber plate name lent n → EncodeNumber plate name lent n′ → n ≡ n′
+encode-only plate name lent n n′ = check-only 10 (name-only name (length lent < 6) n n′)
 
 field-only : {else else′ : Type 0} (f : List ℕ) {n n′ : ℕ} → (else → else′ → n ≡ n′) → FieldNumber f n else → FieldNumber f n′ else′ → n ≡ n′
 field-only f go = check-only 6 (check-only 7 go)
@@ -72,7 +73,7 @@ check-both m n line n′ line′ h f f′ go (inl a) (inr b) = absurd (b .0 (a .
 check-both m n line n′ line′ h f f′ go (inr a) (inl b) = absurd (a .0 (b .0))
 check-both m n line n′ line′ h f f′ go (inr a) (inr b) = go (a .1) (b .1)
 
-pub build-only : (text : List ℕ) (flag : Bool) (lent : List ℕ) (n line n′ line′ : ℕ) → BuildNumber text flag lent n line → BuildNumber text flag lent n′ line′
+build-only : (text : List ℕ) (flag : Bool) (lent : List ℕ) (n line n′ line′ : ℕ) → BuildNumber text flag lent n line → BuildNumber text flag lent n′ line′
     → (n ≡ n′) × (line ≡ line′)
 build-only text flag lent n line n′ line′ a b =
     check-both 1 n line n′ line′ (inl (omega arith)) (a .1) (b .1)
@@ -80,6 +81,9 @@ build-only text flag lent n line n′ line′ a b =
     (items-only [] firstLine (items text) n line n′ line′
     (check-both 9 n line n′ line′ (inr (omega arith)) (a .1) (b .1)
     (λ x y. (x ∙ sym y, no-line 0 n line (inl (omega arith)) x (a .1) ∙ sym (no-line 0 n′ line′ (inl (omega arith)) y (b .1))))))) (a .0) (b .0)
+
+pub exclusive : Exclusive
+exclusive = (list-only, encode-only, build-only)
 
 -- ---- only numbers of the table
 

@@ -1,5 +1,5 @@
--- When each number comes back. 01, "Numbers that come back": the table's conditions in its words, in the order in which they are checked. That no two
--- numbers meet one input's conditions is proved (proofs/When.antt, `..-only`), and that each call's number meets them. Assumes nothing.
+-- When each number comes back. 01, "Numbers that come back": the table's conditions in its words, in the order in which they are checked. Every call's number
+-- meets them (Demands.antt), and no other does (`Exclusive`): so a number is given exactly when its own condition holds and none before it. Assumes nothing.
 use Prim.Native.Nat.{ℕ, _<_, _≤_}
 use mathlib.Core.Path.{_≡_}
 use mathlib.Core.Logic.{_⊎_}
@@ -99,3 +99,11 @@ BuildNumber text flag lent n line =
     (ItemsNumber [] firstLine (items text) n line
     (Check n 9 (length lent < length (plateBytes edition1 (plateSaid flag text))) (n ≡ 0))))
     × (((3 ≤ n) × (n ≤ 8) → ⊥) → line ≡ 0)
+
+-- ---- no two numbers, and no two lines, meet the conditions for one input
+
+abbrev pub Exclusive : Type 0
+Exclusive =
+    ((plate name lent : List ℕ) (n n′ : ℕ) → ListNumber plate name lent n → ListNumber plate name lent n′ → n ≡ n′)
+    × ((plate name lent : List ℕ) (n n′ : ℕ) → EncodeNumber plate name lent n → EncodeNumber plate name lent n′ → n ≡ n′)
+    × ((text : List ℕ) (flag : Bool) (lent : List ℕ) (n line n′ line′ : ℕ) → BuildNumber text flag lent n line → BuildNumber text flag lent n′ line′ → (n ≡ n′) × (line ≡ line′))
