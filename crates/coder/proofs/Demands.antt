@@ -9,14 +9,14 @@ use native.Mathlib.Omega.{arith}
 use borrow.Author.Tests.{leb-true, leb-false, le-ltb}
 use lib.Dec.{ltb, leb}
 use lib.ListN.{length}
-use Rattle.laws.specs.Lists.{In, every}
+use Rattle.laws.specs.Lists.{every}
 use Rattle.laws.proofs.Tests.{and-true, by-test, between-true}
 use Rattle.chars.specs.Utf8.{isText, charsOf}
 use Rattle.plate.specs.Plate.{Plate, edition1, goodRule, ordered}
 use Rattle.plate.specs.Read.{plateAt, acceptedIn, readPlate}
 use Rattle.branches.specs.Branches.{Use, start, over, codes}
-use Rattle.branches.specs.Choice.{Chosen, yielded, Filled, firsts, firstOnly, Starts}
-use Rattle.branches.proofs.Choice.{chosen-listed, listed-chosen, first-listed, firsts-alone}
+use Rattle.branches.specs.Choice.{yielded, Filled, firsts, firstOnly}
+use Rattle.branches.proofs.Choice.{firsts-alone}
 use Rattle.branches.proofs.Room.{more-room}
 use Rattle.coder.specs.Name.{allowed, prepared, Named, named}
 use Rattle.coder.specs.Name.Named.{Chars}
@@ -149,17 +149,7 @@ module _ (plate name : List ℕ) where
           written = again listed lent′ ∙ listed-fits us lent′ (more-room (room lent) (room lent′) us start (room-grows lent lent′ h) f) ∙ ap (λ (l : List (List ℕ)). listing l lent′) (sym (g .all));
         }
 
-    -- a) Exactly the codes that some choice of one alternative at each use of a rule yields.
-    pub choice-listed : (choice : List (List ℕ)) → Chosen us choice → In (yielded us choice) cs
-    choice-listed choice c = subst (In (yielded us choice)) (sym (g .all)) (chosen-listed us choice c)
-
-    pub listed-choice : (k : List ℕ) → In k cs → (choice : List (List ℕ)) × Chosen us choice × (k ≡ yielded us choice)
-    listed-choice k i = listed-chosen us k (subst (In k) (g .all) i)
-
-    -- b) The unbranched one first: it is what encode gives, alone, in any buffer of six bytes or more.
-    pub first-given : Starts (yielded us (firsts us)) cs
-    first-given = subst (Starts (yielded us (firsts us))) (sym (g .all)) (first-listed us (filled plate name p (g .read)))
-
+    -- b) What encode gives, alone, in any buffer of six bytes or more: the code of the first alternatives.
     pub encode-gives : (lent′ : List ℕ) → 6 ≤ length lent′ → encodeAnswer plate name lent′ ≡ listing (yielded us (firsts us) ∷ []) lent′
     unfolding listAnswer encodeAnswer
     encode-gives lent′ h =
