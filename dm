@@ -1,10 +1,10 @@
 #!/bin/sh
-# Runs dm, and first proves and builds it where that was not done yet.
-# Its status is 1 where anything was refused: a program in Rattle has no status of its own, so what it says on standard error decides.
+# Runs dm, and first proves and builds it where no build of the present sources stands. The help page needs no build.
 set -u
-program=$("$(dirname "$(readlink -f "$0")")/tools/built" dm) || exit 2
-exec 3>&1
-said=$("$program" "$@" 2>&1 >&3)
-[ -z "$said" ] && exit 0
-printf '%s\n' "$said" >&2
-exit 1
+tools=$(dirname "$(readlink -f "$0")")/tools
+case "$#:${1:-}" in
+1:help | 1:-h | 1:--help) exec "$tools/page" dm ;;
+1:--version) exec "$tools/page" dm version ;;
+esac
+program=$("$tools/built" dm) || exit 2
+exec "$program" "$@"

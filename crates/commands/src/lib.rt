@@ -1,0 +1,11 @@
+// The commands as C's main starts them: each answers the status of its process.
+
+#[no_mangle]
+pub extern "C" fn dm_main() -> i32 {
+    dm::run()
+}
+
+#[no_mangle]
+pub extern "C" fn desk_main() -> i32 {
+    desk::run()
+}
