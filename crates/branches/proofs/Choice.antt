@@ -28,14 +28,27 @@ run-has [] bs b (a ∷ more) h c = absurd c
 run-has (u ∷ us) bs b [] h c = absurd c
 run-has (u ∷ us) bs b (a ∷ more) h c = run-has us (step u bs) (extend (u .anyway) a b) more (step-has u bs b a h (c .0)) (c .1)
 
-run-from : (us : List Use) (bs : List Branch) (x : Branch) → In x (run us bs)
-    → (b : Branch) × In b bs × (choice : List (List ℕ)) × Chosen us choice × (x ≡ follow us choice b)
+-- a branch of some, and a choice that leads from it to another
+record Leads (us : List Use) (bs : List Branch) (x : Branch) : Type 0 where
+  branch : Branch
+  among : In branch bs
+  choice : List (List ℕ)
+  chosen : Chosen us choice
+  is : x ≡ follow us choice branch
+
+run-from : (us : List Use) (bs : List Branch) (x : Branch) → In x (run us bs) → Leads us bs x
 unfolding run
-run-from [] bs x h = (x, h, [], tt, refl)
+run-from [] bs x h = record { branch = x; among = h; choice = []; chosen = tt; is = refl }
 run-from (u ∷ us) bs x h =
     let r = run-from us (step u bs) x h in
-    let s = step-from u bs (r .0) (r .1) in
-    (s .0, s .1, s .2 .0 ∷ r .2, (s .2 .1, r .3), r .4 ∙ ap (follow us (r .2)) (s .2 .2))
+    let s = step-from u bs (r .branch) (r .among) in
+    record {
+      branch = s .0;
+      among = s .1;
+      choice = s .2 .0 ∷ r .choice;
+      chosen = (s .2 .1, r .chosen);
+      is = r .is ∙ ap (follow us (r .choice)) (s .2 .2);
+    }
 
 pub chosen-listed : (us : List Use) (choice : List (List ℕ)) → Chosen us choice → In (yielded us choice) (codes us)
 chosen-listed us choice c =
@@ -45,7 +58,7 @@ pub listed-chosen : (us : List Use) (k : List ℕ) → In k (codes us) → (choi
 listed-chosen us k h =
     let m = map-in code k (run us start) (once-from same k (map code (run us start)) h) in
     let r = run-from us start (m .0) (m .1) in
-    (r .2, r .3, m .2 ∙ ap code (r .4 ∙ ap (follow us (r .2)) (one (r .0) (r .1))))
+    (r .choice, r .chosen, m .2 ∙ ap code (r .is ∙ ap (follow us (r .choice)) (one (r .branch) (r .among))))
   where
     one : (b : Branch) → In b start → b ≡ empty
     one b (inl e) = e

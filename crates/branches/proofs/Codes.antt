@@ -9,7 +9,7 @@ use Rattle.laws.specs.Lists.{same}
 use Rattle.laws.specs.Once.{among, merge, once}
 use Rattle.laws.proofs.Arrays.{mapped-from, mapped-end}
 use Rattle.branches.specs.Branches.{Branch, code}
-use Rattle.branches.specs.Held.{branchOf, Front}
+use Rattle.branches.specs.Held.{branchOf, FirstOk}
 use Rattle.branches.specs.declared.Branch as one
 use Rattle.branches.proofs.Holding.{noBranch}
 
@@ -28,7 +28,7 @@ once-one (c ∷ []) h = refl
 once-one (c ∷ d ∷ l) h = absurd (omega arith)
 
 -- From place i on: the one there is dropped or kept, and at the end all are made.
-module _ (items : List one.Branch) (n i : ℕ) (ok : Front items n) (so wanted : List (List ℕ)) (e : merge same so (map codeOf (drop i (take n items))) ≡ wanted) where
+module _ (items : List one.Branch) (n i : ℕ) (ok : FirstOk items n) (so wanted : List (List ℕ)) (e : merge same so (map codeOf (drop i (take n items))) ≡ wanted) where
   here : i < n → merge same so (codeOf (getD items i noBranch) ∷ map codeOf (drop (i + 1) (take n items))) ≡ wanted
   here h =
       let s = ok .small in

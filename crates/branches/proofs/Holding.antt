@@ -12,9 +12,10 @@ use lib.ListN.{replicate, length, take, drop, getD, set, length-set, length-map,
 use lib.Seq.{take-suc-set, length-take-le, drop-set-lt, drop-set-add, drop-cons, set-at, append-snoc}
 use Rattle.laws.specs.Arrays.{Each}
 use Rattle.laws.proofs.Arrays.{each-at, each-behind, same-further, blank-further}
+use Rattle.plate.specs.Plate.{mostDigits}
 use Rattle.plate.specs.Field.{DigitsOk}
 use Rattle.branches.specs.Branches.{Branch, start}
-use Rattle.branches.specs.Held.{BranchOk, branchOf, blankBranch, ItemsOk, Front, BlankBehind}
+use Rattle.branches.specs.Held.{BranchOk, branchOf, blankBranch, mostBranches, ItemsOk, FirstOk, BlankBehind}
 use Rattle.branches.specs.declared.Branch as one
 
 -- what stands past the end of an array, as the proofs of the code have it
@@ -24,40 +25,40 @@ noBranch = record { digits = []; count = 0; last = []; «last_count» = 0 }
 -- ---- those that count
 
 -- Held branches stand in front.
-pub front : (items : List one.Branch) (n : ℕ) → ItemsOk items n → Front items n
-front items n ok = record { small = ok .small; long = ok .long; each = ok .each }
+pub first-ok : (items : List one.Branch) (n : ℕ) → ItemsOk items n → FirstOk items n
+first-ok items n ok = record { small = ok .small; long = ok .long; each = ok .each }
 
 -- Of any 64 none need stand.
-pub front-none : (items : List one.Branch) → length items ≡ 64 → Front items 0
-front-none items long = record { small = zero-le; long = long; each = tt }
+pub none-ok : (items : List one.Branch) → length items ≡ mostBranches → FirstOk items 0
+none-ok items long = record { small = zero-le; long = long; each = tt }
 
 -- Each that stands is a branch.
-pub item-ok : (items : List one.Branch) (n i : ℕ) → Front items n → i < n → BranchOk (getD items i noBranch)
+pub item-ok : (items : List one.Branch) (n i : ℕ) → FirstOk items n → i < n → BranchOk (getD items i noBranch)
 item-ok items n i ok h = let s = ok .small in let l = ok .long in each-at BranchOk noBranch items n i (ok .each) (omega arith) h
 
 -- They are as many as counted.
-pub items-count : (items : List one.Branch) (n : ℕ) → Front items n → length (map branchOf (take n items)) ≡ n
+pub items-count : (items : List one.Branch) (n : ℕ) → FirstOk items n → length (map branchOf (take n items)) ≡ n
 items-count items n ok = let s = ok .small in let l = ok .long in length-map (take n items) branchOf ∙ length-take-le n items (omega arith)
 
 -- Those within room are not over it.
-pub fits : (items : List one.Branch) (n room : ℕ) (wanted : List Branch) → Front items n → n ≤ room → map branchOf (take n items) ≡ wanted
+pub fits : (items : List one.Branch) (n room : ℕ) (wanted : List Branch) → FirstOk items n → n ≤ room → map branchOf (take n items) ≡ wanted
     → false ≡ ltb room (length wanted)
 fits items n room wanted ok h e = sym (le-ltb room (length wanted) (omega (arith, items-count items n ok, ap length e)))
 
 -- ---- one more stored
 
 -- A store behind those that stand adds one that stands.
-stored : (items : List one.Branch) (n : ℕ) (b : one.Branch) → Front items n → n < 64 → take (n + 1) (set items n b) ≡ take n items ++ (b ∷ [])
+stored : (items : List one.Branch) (n : ℕ) (b : one.Branch) → FirstOk items n → n < mostBranches → take (n + 1) (set items n b) ≡ take n items ++ (b ∷ [])
 stored items n b ok h = let l = ok .long in rw (add-one n) (take-suc-set items n b (omega arith))
 
-pub store-ok : (items : List one.Branch) (n : ℕ) (b : one.Branch) → Front items n → n < 64 → BranchOk b → Front (set items n b) (n + 1)
+pub store-ok : (items : List one.Branch) (n : ℕ) (b : one.Branch) → FirstOk items n → n < mostBranches → BranchOk b → FirstOk (set items n b) (n + 1)
 store-ok items n b ok h p = record {
   small = omega arith;
   long = length-set items n b ∙ ok .long;
   each = rw (stored items n b ok h) (each-behind BranchOk (take n items) b (ok .each) p);
 }
 
-pub store-view : {A : Type 0} (view : one.Branch → A) (items : List one.Branch) (n : ℕ) (b : one.Branch) → Front items n → n < 64
+pub store-view : {A : Type 0} (view : one.Branch → A) (items : List one.Branch) (n : ℕ) (b : one.Branch) → FirstOk items n → n < mostBranches
     → map view (take n items) ++ (view b ∷ []) ≡ map view (take (n + 1) (set items n b))
 store-view view items n b ok h = sym (ap (map view) (stored items n b ok h) ∙ map-append view (take n items) (b ∷ []))
 
@@ -65,11 +66,18 @@ store-view view items n b ok h = sym (ap (map view) (stored items n b ok h) ∙ 
 pub store-behind : (items current : List one.Branch) (n : ℕ) (b : one.Branch) → drop n items ≡ drop n current → drop (n + 1) (set items n b) ≡ drop (n + 1) current
 store-behind items current n b e = drop-set-lt (n + 1) items n b (omega arith) ∙ same-further items current n (n + 1) (omega arith) e
 
+-- What a loop keeps that fills `next`, a copy of `current`: the first m stand, behind them nothing has changed, and what is made from here on is what is
+-- wanted.
+pub record Filling (A : Type 0) (current next : List one.Branch) (m : ℕ) (made wanted : A) : Type 0 where
+  pub first : FirstOk next m
+  pub behind : drop m next ≡ drop m current
+  pub is : made ≡ wanted
+
 -- ---- the rest blanked
 
 -- An array that is, from place m on, one whose first n stand, is blank behind both places.
 pub blank-behind : (items current : List one.Branch) (m n : ℕ) → ItemsOk current n → drop m items ≡ drop m current → BlankBehind items m n
-blank-behind items current m n ok e j h i = same-further items current m j h e ∙ blank-further current 64 n j blankBranch i (ok .clear)
+blank-behind items current m n ok e j h i = same-further items current m j h e ∙ blank-further current mostBranches n j blankBranch i (ok .clear)
 
 -- To begin with nothing is blanked.
 pub none-blanked : (items : List one.Branch) (from : ℕ) → drop from items ≡ replicate (from - from) blankBranch ++ drop from items
@@ -77,7 +85,7 @@ none-blanked items from = ap (λ (k : ℕ). replicate k blankBranch ++ drop from
 
 -- From a place on, `out` is blank up to i and then `items`: a store at i blanks one more, and where `items` is blank from i on, all is.
 module _ (items out : List one.Branch) (from i : ℕ) (first : from ≤ i) where
-  pub blanked : (b : one.Branch) → b ≡ blankBranch → length items ≡ 64 → i < 64 → drop from out ≡ replicate (i - from) blankBranch ++ drop i items
+  pub blanked : (b : one.Branch) → b ≡ blankBranch → length items ≡ mostBranches → i < mostBranches → drop from out ≡ replicate (i - from) blankBranch ++ drop i items
       → drop from (set out i b) ≡ replicate (i + 1 - from) blankBranch ++ drop (i + 1) items
   blanked b e long h is =
       let at : from + (i - from) ≡ i = omega arith in
@@ -92,24 +100,24 @@ module _ (items out : List one.Branch) (from i : ℕ) (first : from ≤ i) where
       ∙ ap (λ (l : List one.Branch). l ++ drop (suc i) items) (one-more ∙ ap (λ (k : ℕ). replicate k blankBranch) more)
       ∙ ap (λ (k : ℕ). replicate (i + 1 - from) blankBranch ++ drop k items) (sym (add-one i))
 
-  pub cleared-ok : (to : ℕ) → Front items from → i ≤ 64 → BlankBehind items from to → to ≤ i → length out ≡ 64
+  pub cleared-ok : (to : ℕ) → FirstOk items from → i ≤ mostBranches → BlankBehind items from to → to ≤ i → length out ≡ mostBranches
       → take from out ≡ take from items → drop from out ≡ replicate (i - from) blankBranch ++ drop i items → ItemsOk out from
   cleared-ok to ok h blank past long same is =
-      let size : i - from + (64 - i) ≡ 64 - from = omega arith in
+      let size : i - from + (mostBranches - i) ≡ mostBranches - from = omega arith in
       record {
         small = ok .small;
         long = long;
         each = subst (Each BranchOk) (sym same) (ok .each);
         clear = is ∙ ap (λ (l : List one.Branch). replicate (i - from) blankBranch ++ l) (blank i first past)
-            ∙ replicate-append-replicate (i - from) (64 - i) blankBranch ∙ ap (λ (k : ℕ). replicate k blankBranch) size;
+            ∙ replicate-append-replicate (i - from) (mostBranches - i) blankBranch ∙ ap (λ (k : ℕ). replicate k blankBranch) size;
       }
 
 -- ---- 64 blank branches, of which none counts, or one
 
-pub blanks-ok : (b : one.Branch) → b ≡ blankBranch → ItemsOk (replicate 64 b) 0
-blanks-ok b e = record { small = zero-le; long = refl; each = tt; clear = ap (replicate 64) e }
+pub blanks-ok : (b : one.Branch) → b ≡ blankBranch → ItemsOk (replicate mostBranches b) 0
+blanks-ok b e = record { small = zero-le; long = refl; each = tt; clear = ap (replicate mostBranches) e }
 
-pub start-ok : (b : one.Branch) → b ≡ blankBranch → ItemsOk (replicate 64 b) 1 × (branchOf b ∷ [] ≡ start)
+pub start-ok : (b : one.Branch) → b ≡ blankBranch → ItemsOk (replicate mostBranches b) 1 × (branchOf b ∷ [] ≡ start)
 start-ok b e =
-    let empty : DigitsOk (replicate 6 48) 0 = record { small = zero-le; six = refl; clear = refl } in
+    let empty : DigitsOk (replicate mostDigits 48) 0 = record { small = zero-le; six = refl; clear = refl } in
     (record { small = lit≤ tt; long = refl; each = rw e ((empty, empty), tt); clear = ap (replicate 63) e }, rw e)

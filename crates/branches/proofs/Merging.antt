@@ -1,8 +1,8 @@
 -- What a step lists: each extension of each branch, and nothing else; the first one first. Dropping one equal to an earlier one loses none. Assumes nothing.
 use Prim.Native.Nat.{ℕ, _<_}
-use mathlib.Core.Path.{_≡_, refl, sym, ap, subst}
+use mathlib.Core.Path.{_≡_, refl, sym, subst}
 use mathlib.Core.Logic.{_⊎_, inl, inr}
-use mathlib.Core.Bool.{Bool, true, false, cond, false≢true}
+use mathlib.Core.Bool.{true}
 use mathlib.Core.List.{List, [], _∷_, _++_, map}
 use native.Mathlib.Omega.{arith}
 use lib.ListN.{length}
@@ -11,7 +11,7 @@ use Rattle.laws.proofs.Members.{in-left, in-right, in-either, in-map, map-in}
 use Rattle.laws.specs.Once.{once}
 use Rattle.laws.proofs.Once.{once-has, once-from, once-first}
 use Rattle.laws.proofs.Same.{same-equal}
-use Rattle.laws.proofs.Tests.{and-true, or-true}
+use Rattle.laws.proofs.Tests.{and-true}
 use Rattle.branches.specs.Branches.{Branch, Use, extend, met, sameBranch, step}
 use Rattle.branches.specs.Choice.{first, Starts}
 

@@ -12,7 +12,7 @@ use Rattle.laws.proofs.Arrays.{by-halves}
 use Rattle.laws.proofs.Only.{only}
 use Rattle.plate.specs.Field.{DigitsOk}
 use Rattle.branches.specs.Branches as defined
-use Rattle.branches.specs.Held.{BranchOk, branchOf, blankBranch, BranchesOk, branchesOf, Answered}
+use Rattle.branches.specs.Held.{BranchOk, branchOf, blankBranch, mostBranches, BranchesOk, branchesOf, Answered}
 use Rattle.branches.specs.declared.Branch.{Branch}
 use Rattle.branches.specs.declared.Branches.{Branches}
 use Rattle.branches.specs.declared.Stepped.{Stepped}
@@ -50,7 +50,7 @@ branches-once b c p q e =
     let n : b .count ≡ c .count = sym (length-take-le (b .count) (b .items) (omega arith)) ∙ ap length front ∙ length-take-le (c .count) (c .items) (omega arith) in
     let l : b .items ≡ c .items =
     by-halves (b .count) (b .items) (c .items) (front ∙ ap (λ (j : ℕ). take j (c .items)) (sym n))
-    (p .clear ∙ ap (λ (j : ℕ). replicate (64 - j) blankBranch) n ∙ sym (q .clear) ∙ ap (λ (j : ℕ). drop j (c .items)) (sym n)) in
+    (p .clear ∙ ap (λ (j : ℕ). replicate (mostBranches - j) blankBranch) n ∙ sym (q .clear) ∙ ap (λ (j : ℕ). drop j (c .items)) (sym n)) in
     λ i. record { items = l i; count = n i }
 
 -- "At the end zeros fill each code to six digits": they stand there already.

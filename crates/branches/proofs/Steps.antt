@@ -14,7 +14,7 @@ use Rattle.plate.specs.declared.Field.{Field}
 use Rattle.branches.specs.Branches.{Branch, Use, extend, met, sameBranch, step}
 use Rattle.laws.specs.Once.{among, merge}
 use Rattle.laws.proofs.Once.{merge-grows}
-use Rattle.branches.specs.Held.{branchOf, Front}
+use Rattle.branches.specs.Held.{branchOf, FirstOk}
 use Rattle.branches.specs.declared.Branch as one
 use Rattle.branches.proofs.Holding.{noBranch}
 
@@ -28,7 +28,7 @@ alternative-ok f j ok h = let s = ok .small in let l = ok .long in each-at Alter
 
 -- ---- one among the first n, seen through `view`: from place i on it is the one there, or among those behind
 
-module _ {A : Type 0} (equal : A → A → Bool) (view : one.Branch → A) (b : A) (items : List one.Branch) (n i : ℕ) (ok : Front items n) (wanted : Bool)
+module _ {A : Type 0} (equal : A → A → Bool) (view : one.Branch → A) (b : A) (items : List one.Branch) (n i : ℕ) (ok : FirstOk items n) (wanted : Bool)
     (here : among equal b (map view (drop i (take n items))) ≡ wanted) where
   among-here : i < n → equal b (view (getD items i noBranch)) || among equal b (map view (drop (i + 1) (take n items))) ≡ wanted
   among-here h =
@@ -60,7 +60,7 @@ unfolding step
 begins u bs = refl
 
 -- A branch is taken up: its extensions by all alternatives come first.
-pub opens : (u : Use) (so wanted : List Branch) (items : List one.Branch) (n i : ℕ) → Front items n → i < n
+pub opens : (u : Use) (so wanted : List Branch) (items : List one.Branch) (n i : ℕ) → FirstOk items n → i < n
     → merge sameBranch so (met u (map branchOf (drop i (take n items)))) ≡ wanted
     → still u so (branchOf (getD items i noBranch)) (u .alternatives) (map branchOf (drop (i + 1) (take n items))) ≡ wanted
 unfolding met

@@ -23,6 +23,10 @@ pub record Use : Type 0 where
   pub alternatives : List (List ℕ)
   pub anyway : Bool
 
+-- "six digits"
+abbrev pub codeDigits : ℕ
+codeDigits = 6
+
 -- the first list ends with the second
 unfoldable pub endsWith : List ℕ → List ℕ → Bool
 endsWith l a = leb (length a) (length l) && same (drop (length l - length a) l) a
@@ -30,7 +34,7 @@ endsWith l a = leb (length a) (length l) && same (drop (length l - length a) l) 
 -- "It is appended and cut at six digits, unless the last replacement ends with it; between the group characters `m` then `n`, or `n` then `m`, it is
 -- appended anyway. It becomes the last replacement either way."
 unfoldable pub extend : Bool → List ℕ → Branch → Branch
-extend anyway a b = record { digits = cond (anyway || not (endsWith (b .last) a)) (take 6 (b .digits ++ a)) (b .digits); last = a }
+extend anyway a b = record { digits = cond (anyway || not (endsWith (b .last) a)) (take codeDigits (b .digits ++ a)) (b .digits); last = a }
 
 -- "Each branch, in order, meets each alternative, in order."
 unfoldable pub met : Use → List Branch → List Branch
@@ -57,7 +61,7 @@ over room (u ∷ more) bs = ltb room (length bs) || over room more (step u bs)
 
 -- "At the end zeros fill each code to six digits."
 abbrev pub code : Branch → List ℕ
-code b = b .digits ++ replicate (6 - length (b .digits)) 48
+code b = b .digits ++ replicate (codeDigits - length (b .digits)) 48
 
 -- 02, M-105: "Drop a code equal to an earlier one when writing; the first place stays."
 abbrev pub codes : List Use → List (List ℕ)

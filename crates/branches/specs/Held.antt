@@ -7,9 +7,10 @@ use mathlib.Core.List.{List, [], map}
 use lib.Dec.{ltb}
 use lib.ListN.{length, take, drop, replicate}
 use Rattle.laws.specs.Arrays.{Each}
+use Rattle.plate.specs.Plate.{mostDigits}
 use Rattle.plate.specs.declared.Field.{Field}
 use Rattle.plate.specs.Field.{DigitsOk, alternativesOf}
-use Rattle.branches.specs.Branches.{Branch, Use}
+use Rattle.branches.specs.Branches.{Branch, Use, codeDigits}
 use Rattle.branches.specs.declared.Branch as one
 use Rattle.branches.specs.declared.Branches as many
 use Rattle.branches.specs.declared.Stepped.{Stepped}
@@ -23,26 +24,30 @@ abbrev pub branchOf : one.Branch → Branch
 branchOf b = record { digits = take (b .count) (b .digits); last = take (b .«last_count») (b .last) }
 
 abbrev pub blankBranch : one.Branch
-blankBranch = record { digits = replicate 6 48; count = 0; last = replicate 6 48; «last_count» = 0 }
+blankBranch = record { digits = replicate codeDigits 48; count = 0; last = replicate mostDigits 48; «last_count» = 0 }
 
 -- ---- branches
 
--- 64 branches, of which the first n stand and the others are blank
+-- "up to 64 are held side by side"
+abbrev pub mostBranches : ℕ
+mostBranches = 64
+
+-- that many, of which the first n stand and the others are blank
 pub record ItemsOk (l : List one.Branch) (n : ℕ) : Type 0 where
-  pub small : n ≤ 64
-  pub long : length l ≡ 64
+  pub small : n ≤ mostBranches
+  pub long : length l ≡ mostBranches
   pub each : Each BranchOk (take n l)
-  pub clear : drop n l ≡ replicate (64 - n) blankBranch
+  pub clear : drop n l ≡ replicate (mostBranches - n) blankBranch
 
 -- what is known of them while they are filled: the first n stand
-pub record Front (l : List one.Branch) (n : ℕ) : Type 0 where
-  pub small : n ≤ 64
-  pub long : length l ≡ 64
+pub record FirstOk (l : List one.Branch) (n : ℕ) : Type 0 where
+  pub small : n ≤ mostBranches
+  pub long : length l ≡ mostBranches
   pub each : Each BranchOk (take n l)
 
 -- from any place behind both on, all are blank
 abbrev pub BlankBehind : List one.Branch → ℕ → ℕ → Type 0
-BlankBehind l m n = (j : ℕ) → m ≤ j → n ≤ j → drop j l ≡ replicate (64 - j) blankBranch
+BlankBehind l m n = (j : ℕ) → m ≤ j → n ≤ j → drop j l ≡ replicate (mostBranches - j) blankBranch
 
 abbrev pub BranchesOk : many.Branches → Type 0
 BranchesOk bs = ItemsOk (bs .items) (bs .count)

@@ -8,21 +8,27 @@ ghost use Rattle.laws.specs.Lists.{same};
 ghost use Rattle.laws.specs.Once.{once};
 ghost use Rattle.plate.specs.Field.{DigitsOk, AlternativeOk, alternativeOf, FieldOk};
 ghost use Rattle.branches.specs.Branches as defined;
-ghost use Rattle.branches.specs.Held.{BranchOk, branchOf, blankBranch, ItemsOk, Front, BlankBehind, BranchesOk, branchesOf, useOf, Answered};
+ghost use Rattle.branches.specs.Held.{BranchOk, branchOf, blankBranch, mostBranches, ItemsOk, FirstOk, BlankBehind, BranchesOk, branchesOf, useOf, Answered};
 use plate::Alternative;
 use plate::Field;
+use plate::MOST_DIGITS;
+
+// "up to 64 are held side by side", each with six digits.
+pub const MOST_BRANCHES: usize = 64;
+
+const CODE_DIGITS: u8 = 6;
 
 // "A branch is its digits so far, at most six, and its last replacement." Digits are ASCII and the bytes past a count are b'0': the six are the padded code.
 pub struct Branch {
-    pub digits: [u8; 6],
+    pub digits: [u8; MOST_DIGITS],
     pub count: u8,
-    pub last: [u8; 6],
+    pub last: [u8; MOST_DIGITS],
     pub last_count: u8,
 }
 
 // "up to 64 are held side by side"; those past the count are blank.
 pub struct Branches {
-    pub items: [Branch; 64],
+    pub items: [Branch; MOST_BRANCHES],
     pub count: usize,
 }
 
@@ -40,7 +46,7 @@ fn least(a: usize, b: usize) -> usize
 }
 
 // The digits are the same. Past the counts there are zeros, so all six are compared, whatever the count.
-fn same_digits(a: [u8; 6], n: u8, b: [u8; 6], m: u8) -> bool
+fn same_digits(a: [u8; MOST_DIGITS], n: u8, b: [u8; MOST_DIGITS], m: u8) -> bool
     requires { ⌜ DigitsOk a n × DigitsOk b m ⌝ }
     ensures { λ r. ⌜ r ≡ same (take n a) (take m b) ⌝ }
 {
@@ -48,7 +54,7 @@ fn same_digits(a: [u8; 6], n: u8, b: [u8; 6], m: u8) -> bool
         return false;
     }
     let mut i = 0;
-    while i < 6 {
+    while i < MOST_DIGITS {
         if a[i] != b[i] {
             return false;
         }
@@ -96,10 +102,10 @@ fn ends_with(b: Branch, a: Alternative) -> bool
 // "It is appended and cut at six digits [..] It becomes the last replacement".
 fn append(b: Branch, a: Alternative) -> Branch
     requires { ⌜ BranchOk b × AlternativeOk a ⌝ }
-    ensures { λ r. ⌜ BranchOk r × (branchOf r ≡ record { digits = take 6 (branchOf b .digits ++ alternativeOf a); last = alternativeOf a }) ⌝ }
+    ensures { λ r. ⌜ BranchOk r × (branchOf r ≡ record { digits = take defined.codeDigits (branchOf b .digits ++ alternativeOf a); last = alternativeOf a }) ⌝ }
 {
     let n = b.count as usize;
-    let k = least(a.count as usize, 6 - n);
+    let k = least(a.count as usize, MOST_DIGITS - n);
     let mut digits = b.digits;
     let mut i = 0;
     while i < k {
@@ -141,9 +147,9 @@ fn blank() -> Branch
     ensures { λ r. ⌜ r ≡ blankBranch ⌝ }
 {
     Branch {
-        digits: [b'0'; 6],
+        digits: [b'0'; MOST_DIGITS],
         count: 0,
-        last: [b'0'; 6],
+        last: [b'0'; MOST_DIGITS],
         last_count: 0,
     }
 }
@@ -153,7 +159,7 @@ fn too_many() -> Stepped
     ensures { λ r. ⌜ (r .over ≡ true) × BranchesOk (r .next) × (branchesOf (r .next) ≡ []) ⌝ }
 {
     let none = Branches {
-        items: [blank(); 64],
+        items: [blank(); MOST_BRANCHES],
         count: 0,
     };
     Stepped {
@@ -167,14 +173,14 @@ pub fn start() -> Branches
     ensures { λ r. ⌜ BranchesOk r × (branchesOf r ≡ defined.start) ⌝ }
 {
     Branches {
-        items: [blank(); 64],
+        items: [blank(); MOST_BRANCHES],
         count: 1,
     }
 }
 
 // The array with blank branches from one place up to another.
-fn cleared(items: [Branch; 64], from: usize, to: usize) -> [Branch; 64]
-    requires { ⌜ Front items from × (to ≤ 64) × BlankBehind items from to ⌝ }
+fn cleared(items: [Branch; MOST_BRANCHES], from: usize, to: usize) -> [Branch; MOST_BRANCHES]
+    requires { ⌜ FirstOk items from × (to ≤ mostBranches) × BlankBehind items from to ⌝ }
     ensures { λ r. ⌜ ItemsOk r from × (take from r ≡ take from items) ⌝ }
 {
     let mut out = items;
@@ -187,7 +193,7 @@ fn cleared(items: [Branch; 64], from: usize, to: usize) -> [Branch; 64]
 // One step of all branches. "Each branch, in order, meets each alternative, in order. [..] A branch equal in digits and last replacement to an earlier one of
 // this step is dropped."
 pub fn step(bs: Branches, f: Field, anyway: bool, room: usize) -> Stepped
-    requires { ⌜ BranchesOk bs × FieldOk f × (room ≤ 64) ⌝ }
+    requires { ⌜ BranchesOk bs × FieldOk f × (room ≤ mostBranches) ⌝ }
     ensures { λ r. ⌜ Answered room (defined.step (useOf f anyway) (branchesOf bs)) r ⌝ }
 {
     let current = bs.items;
@@ -232,7 +238,7 @@ fn same_code(b: Branch, c: Branch) -> bool
 {
     let digits = b.digits;
     let others = c.digits;
-    same_digits(digits, 6, others, 6)
+    same_digits(digits, CODE_DIGITS, others, CODE_DIGITS)
 }
 
 // "Drop a code equal to an earlier one when writing; the first place stays." The first branch of each code, once the last step is made.

@@ -15,7 +15,7 @@ use Rattle.laws.proofs.Tests.{and-true, between-true}
 use Rattle.laws.proofs.Cuts.{every-take}
 use Rattle.chars.specs.Digits.{isAlternative, digit}
 use Rattle.plate.specs.Plate.{Rule, goodRule, goodPattern, goodField}
-use Rattle.plate.specs.Stands.{fieldOf, held, heldField}
+use Rattle.plate.specs.Stands.{fieldOf, heldAlternative, heldField}
 use Rattle.plate.specs.Field.{AlternativeOk, alternativeOf, FieldOk, alternativesOf}
 use Rattle.plate.specs.declared.Field.{Field}
 
@@ -46,7 +46,7 @@ module _ (a : List ℕ) (h : isAlternative a ≡ true) where
   six : length a ≤ 6
   six = leb-true (length a) 6 (and-true (leb (length a) 6) (every digit a) h .0)
 
-  held-ok : AlternativeOk (held a)
+  held-ok : AlternativeOk (heldAlternative a)
   held-ok =
       let fill : List ℕ = replicate (6 - length a) 48 in
       record {
@@ -55,10 +55,10 @@ module _ (a : List ℕ) (h : isAlternative a ≡ true) where
         clear = drop-at a fill (length a) refl;
       }
 
-  held-is : alternativeOf (held a) ≡ a
+  held-is : alternativeOf (heldAlternative a) ≡ a
   held-is = take-at a (replicate (6 - length a) 48) (length a) refl
 
-each-held : (f : List (List ℕ)) → every isAlternative f ≡ true → Each AlternativeOk (map held f) × (map alternativeOf (map held f) ≡ f)
+each-held : (f : List (List ℕ)) → every isAlternative f ≡ true → Each AlternativeOk (map heldAlternative f) × (map alternativeOf (map heldAlternative f) ≡ f)
 each-held [] h = (tt, refl)
 each-held (a ∷ more) h =
     let b = and-true (isAlternative a) (every isAlternative more) h in
@@ -68,16 +68,16 @@ each-held (a ∷ more) h =
 -- ---- a field
 
 module _ (f : List (List ℕ)) (eight : length f ≤ 8) (good : every isAlternative f ≡ true) where
-  firsts : take (length f) (map held f ++ replicate (8 - length f) (held [])) ≡ map held f
-  firsts = take-at (map held f) (replicate (8 - length f) (held [])) (length f) (length-map f held)
+  firsts : take (length f) (map heldAlternative f ++ replicate (8 - length f) (heldAlternative [])) ≡ map heldAlternative f
+  firsts = take-at (map heldAlternative f) (replicate (8 - length f) (heldAlternative [])) (length f) (length-map f heldAlternative)
 
   field-ok : FieldOk (heldField f)
   field-ok =
       record {
         small = eight;
-        long = length-append (map held f) (replicate (8 - length f) (held [])) ∙ ap₂ _+_ (length-map f held) (length-replicate (8 - length f) (held [])) ∙ omega arith;
+        long = length-append (map heldAlternative f) (replicate (8 - length f) (heldAlternative [])) ∙ ap₂ _+_ (length-map f heldAlternative) (length-replicate (8 - length f) (heldAlternative [])) ∙ omega arith;
         each = subst (Each AlternativeOk) (sym firsts) (each-held f good .0);
-        clear = drop-at (map held f) (replicate (8 - length f) (held [])) (length f) (length-map f held);
+        clear = drop-at (map heldAlternative f) (replicate (8 - length f) (heldAlternative [])) (length f) (length-map f heldAlternative);
       }
 
   field-is : alternativesOf (heldField f) ≡ f

@@ -10,15 +10,18 @@ use lib.Dec.{ltb, leb, eqb}
 use lib.ListN.{length}
 use borrow.Author.Tests.{lt-ltb, le-ltb, le-leb, lt-leb, eq-eqb, ne-eqb}
 use Rattle.laws.specs.Lists.{every, between}
-use Rattle.laws.proofs.Tests.{and-true, and-left-false, and-right-false, is-between, above-between}
+use Rattle.laws.proofs.Tests.{and-true, and-left-false, and-right-false, is-between, above-between, between-true}
 use Rattle.laws.proofs.Bits.{by-order}
 use Rattle.laws.proofs.Many.{and-holds, and-right-holds, and-swap, and-cross, every-append}
 use Rattle.chars.specs.Utf8.{charOf, codeOf, scalar}
 use Rattle.chars.specs.Digits.{digit, isAlternative}
 use Rattle.plate.specs.Bits.{numberAt}
-use Rattle.plate.specs.Plate.{Folding, Rule, Edition, mostFoldings, goodField, goodPattern, goodRule, nonzeroScalar, goodFolding, rising, firstCode, ordered}
-use Rattle.plate.specs.Read.{many, past, alternativeAt, alternativeEnd, fieldAt, fieldEnd, ruleAt, ruleEnd, foldingAt, foldingEnd, ruleCount, foldingCount, reserved, rulesPlace, plateAt, plateEnd, closed, acceptedIn}
-use Rattle.plate.specs.Answers.{bytesAt, codeIf, firstOf, stepIf, upTo, lastDigits, alternativeStep, alternativesStep, fieldStep, fieldsStep, seenIf, inOrder, ruleFits, ruleSeen, follow, rulesStep, above, foldingsGood, edition}
+use Rattle.plate.specs.Plate.{mostDigits, mostAlternatives, Folding, Rule, Edition, mostBytes, mostFoldings, goodField, goodPattern, goodRule, nonzeroScalar}
+use Rattle.plate.specs.Plate.{goodFolding, rising, firstCode, ordered}
+use Rattle.plate.specs.Read.{foldingsPlace, many, past, alternativeAt, alternativeEnd, fieldAt, fieldEnd, ruleAt, ruleEnd, foldingAt, foldingEnd, ruleCount, foldingCount, reserved}
+use Rattle.plate.specs.Read.{rulesPlace, plateAt, plateEnd, closed, acceptedIn}
+use Rattle.plate.specs.Answers.{bytesAt, goodText, codeIf, firstOf, stepIf, upTo, lastDigits, alternativeStep, alternativesStep, fieldStep, fieldsStep, seenIf, inOrder}
+use Rattle.plate.specs.Answers.{ruleFits, ruleSeen, orderedBehind, rulesStep, above, foldingsGood, edition}
 use Rattle.plate.specs.Window.{Holds}
 use Rattle.plate.specs.declared.Step.{Step}
 use Rattle.plate.specs.declared.Step.the-variants.{To, Nowhere}
@@ -81,8 +84,20 @@ abbrev isGood : Seen → Bool
 isGood (Good c n at) = true
 isGood Wrong = false
 
-pub good : {r : Seen} (t : Bool) (c n k c′ n′ k′ : ℕ) → r ≡ seenIf t c n k → r ≡ Good c′ n′ k′ → (t ≡ true) × (c ≡ c′) × (n ≡ n′) × (k ≡ k′)
-good true c n k c′ n′ k′ e f = (refl, ap seenCode (sym e ∙ f), ap seenLength (sym e ∙ f), ap seenPlace (sym e ∙ f))
+-- A rule that was taken fits, and its numbers are those told.
+pub record Taken (t : Bool) (c n k c′ n′ k′ : ℕ) : Type 0 where
+  pub fits : t ≡ true
+  pub code : c ≡ c′
+  pub bytes : n ≡ n′
+  pub behind : k ≡ k′
+
+pub good : {r : Seen} (t : Bool) (c n k c′ n′ k′ : ℕ) → r ≡ seenIf t c n k → r ≡ Good c′ n′ k′ → Taken t c n k c′ n′ k′
+good true c n k c′ n′ k′ e f = record {
+  fits = refl;
+  code = ap seenCode (sym e ∙ f);
+  bytes = ap seenLength (sym e ∙ f);
+  behind = ap seenPlace (sym e ∙ f);
+}
 good false c n k c′ n′ k′ e f = absurd (false≢true (ap isGood (sym e ∙ f)))
 
 wrong : {r : Seen} (t : Bool) (c n k : ℕ) → r ≡ seenIf t c n k → r ≡ Wrong → t ≡ false
@@ -122,6 +137,14 @@ four-bits d = by-order (digit (48 + d) ≡ leb d 9) 9 d over within
     within : d ≤ 9 → digit (48 + d) ≡ leb d 9
     within h = is-between 48 57 (48 + d) (omega arith) (omega arith) ∙ sym (le-leb d 9 h)
 
+-- A pattern that is accepted has few bytes.
+pub pattern-few : (s : List ℕ) (n at : ℕ) (r : First.First) → r ≡ firstOf (bytesAt s n at) → (c : ℕ) → r ≡ FirstIs.Code c → n ≤ mostBytes
+pattern-few s n at r e c f =
+    let p = bytesAt s n at in
+    let good = is-code (goodPattern p) (codeOf (charOf p)) c e f .0 in
+    let few = between-true 1 mostBytes (length p) (and-true (between 1 mostBytes (length p)) (goodText p) good .0) in
+    omega (arith, few .1, bytes-length s n at)
+
 module _ (s : List ℕ) where
   abbrev digitAt : ℕ → ℕ
   digitAt p = 48 + numberAt s p 4
@@ -149,25 +172,19 @@ module _ (s : List ℕ) where
     abbrev alternativeOf : ℕ → Step
     alternativeOf k = stepIf (isAlternative (digitsAt k (at + 3))) (at + 3 + 4 * k)
 
-    pub alternative-over : 6 < n → Nowhere ≡ alternativeStep s at
+    pub alternative-over : mostDigits < n → Nowhere ≡ alternativeStep s at
     alternative-over h =
-        sym (ap (λ (t : Bool). stepIf t (at + 3 + 4 * n)) (and-left-false _ (every digit (digitsAt n (at + 3))) (count-over digitAt (λ p. p + 4) n (at + 3) 6 h)))
+        sym (ap (λ (t : Bool). stepIf t (at + 3 + 4 * n)) (and-left-false _ (every digit (digitsAt n (at + 3))) (count-over digitAt (λ p. p + 4) n (at + 3) mostDigits h)))
         ∙ ap alternativeOf e
 
     -- The count is right, so the digits decide.
-    module _ (h : n ≤ 6) (v : ℕ) (f : v ≡ numberAt s (at + 3) (4 * n)) (t : Bool) (d : t ≡ lastDigits n v) where
-      by-digits : (b : Bool) → t ≡ b → stepIf b (at + 3 + 4 * n) ≡ alternativeStep s at
+    module _ (h : n ≤ mostDigits) (v : ℕ) (f : v ≡ numberAt s (at + 3) (4 * n)) (t : Bool) (d : t ≡ lastDigits n v) where
+      pub by-digits : (b : Bool) → t ≡ b → stepIf b (at + 3 + 4 * n) ≡ alternativeStep s at
       by-digits b g =
           ap (λ (x : Bool). stepIf x (at + 3 + 4 * n))
           (sym g ∙ d ∙ ap (lastDigits n) f ∙ digits-at n (at + 3)
-          ∙ sym (and-holds _ (every digit (digitsAt n (at + 3))) (count-in digitAt (λ p. p + 4) n (at + 3) 6 h)))
+          ∙ sym (and-holds _ (every digit (digitsAt n (at + 3))) (count-in digitAt (λ p. p + 4) n (at + 3) mostDigits h)))
           ∙ ap alternativeOf e
-
-      pub alternative-is : t ≡ true → To (at + 3 + 4 * n) ≡ alternativeStep s at
-      alternative-is g = by-digits true g
-
-      pub alternative-not : t ≡ false → Nowhere ≡ alternativeStep s at
-      alternative-not g = by-digits false g
 
   -- ---- fields
 
@@ -191,21 +208,21 @@ module _ (s : List ℕ) where
     abbrev fieldOf : ℕ → Step
     fieldOf k = stepIf (goodField (many (alternativeAt s) (alternativeEnd s) k (at + 4))) (past (alternativeEnd s) k (at + 4))
 
-    field-out : between 1 8 (length (many (alternativeAt s) (alternativeEnd s) n (at + 4))) ≡ false → Nowhere ≡ fieldStep s at
+    field-out : between 1 mostAlternatives (length (many (alternativeAt s) (alternativeEnd s) n (at + 4))) ≡ false → Nowhere ≡ fieldStep s at
     field-out h =
         sym (ap (λ (t : Bool). stepIf t (past (alternativeEnd s) n (at + 4))) (and-left-false _ (every isAlternative (many (alternativeAt s) (alternativeEnd s) n (at + 4))) h))
         ∙ ap fieldOf e
 
     pub field-none : n < 1 → Nowhere ≡ fieldStep s at
-    field-none h = field-out (between-none (alternativeAt s) (alternativeEnd s) n (at + 4) 8 h)
+    field-none h = field-out (between-none (alternativeAt s) (alternativeEnd s) n (at + 4) mostAlternatives h)
 
-    pub field-over : 8 < n → Nowhere ≡ fieldStep s at
-    field-over h = field-out (between-over (alternativeAt s) (alternativeEnd s) n (at + 4) 8 h)
+    pub field-over : mostAlternatives < n → Nowhere ≡ fieldStep s at
+    field-over h = field-out (between-over (alternativeAt s) (alternativeEnd s) n (at + 4) mostAlternatives h)
 
-    pub field-is : 1 ≤ n → n ≤ 8 → alternativesStep s n (at + 4) ≡ fieldStep s at
+    pub field-is : 1 ≤ n → n ≤ mostAlternatives → alternativesStep s n (at + 4) ≡ fieldStep s at
     field-is h g =
         ap (λ (t : Bool). stepIf t (past (alternativeEnd s) n (at + 4)))
-        (sym (and-holds _ (every isAlternative (many (alternativeAt s) (alternativeEnd s) n (at + 4))) (between-in (alternativeAt s) (alternativeEnd s) n (at + 4) 8 h g)))
+        (sym (and-holds _ (every isAlternative (many (alternativeAt s) (alternativeEnd s) n (at + 4))) (between-in (alternativeAt s) (alternativeEnd s) n (at + 4) mostAlternatives h g)))
         ∙ ap fieldOf e
 
     -- A single alternative decides.
@@ -235,7 +252,7 @@ module _ (s : List ℕ) where
       let decimal : d % 16 ≤ 9 = omega (arith, parts, single, left .1, d-lt) in
       ap To {x = at + 11} {y = at + 4 + 3 + 4 * 1} (omega arith)
       ∙ field-one at 1 (sym one) refl (To (at + 4 + 3 + 4 * 1))
-      (alternative-is (at + 4) 1 (sym single) (omega arith) d refl true (sym (and-holds (leb (d % 16) 9) true (le-leb (d % 16) 9 decimal))) refl)
+      (by-digits (at + 4) 1 (sym single) (omega arith) d refl true (sym (and-holds (leb (d % 16) 9) true (le-leb (d % 16) 9 decimal))) true refl)
 
 -- No further than a place is no further than a later one.
 pub up-further : (r : Step) (m n : ℕ) → m ≤ n → upTo r m → upTo r n
@@ -334,7 +351,7 @@ module _ (s : List ℕ) (at c n : ℕ) where
 -- ---- the rules
 
 -- In order behind the first of them is in order.
-behind-first : (r : Rule) (more : List Rule) → ordered (r ∷ more) ≡ follow (firstCode r) (length (r .pattern)) more
+behind-first : (r : Rule) (more : List Rule) → ordered (r ∷ more) ≡ orderedBehind (firstCode r) (length (r .pattern)) more
 behind-first r [] = refl
 behind-first r (q ∷ more) = refl
 
@@ -346,17 +363,17 @@ module _ (s : List ℕ) (at left c n : ℕ) (h : 0 < left) where
   more = many (ruleAt s) (ruleEnd s) (left - 1) (ruleEnd s at)
 
   abbrev moreGood : Bool
-  moreGood = every goodRule more && follow (firstCode one) (length (one .pattern)) more
+  moreGood = every goodRule more && orderedBehind (firstCode one) (length (one .pattern)) more
 
   abbrev lastEnd : ℕ
   lastEnd = past (ruleEnd s) (left - 1) (ruleEnd s at)
 
   split-rules : rulesStep s at left c n ≡ stepIf (ruleFits one c n && moreGood) lastEnd
   split-rules =
-      ap₂ (λ (l : List Rule) (p : ℕ). stepIf (every goodRule l && follow c n l) p) (many-cons (ruleAt s) (ruleEnd s) left at h) (past-cons (ruleEnd s) left at h)
+      ap₂ (λ (l : List Rule) (p : ℕ). stepIf (every goodRule l && orderedBehind c n l) p) (many-cons (ruleAt s) (ruleEnd s) left at h) (past-cons (ruleEnd s) left at h)
       ∙ ap (λ (t : Bool). stepIf t lastEnd)
       (ap (λ (t : Bool). (goodRule one && every goodRule more) && (inOrder c n (firstCode one) (length (one .pattern)) && t)) (behind-first one more)
-      ∙ and-cross (goodRule one) (every goodRule more) (inOrder c n (firstCode one) (length (one .pattern))) (follow (firstCode one) (length (one .pattern)) more))
+      ∙ and-cross (goodRule one) (every goodRule more) (inOrder c n (firstCode one) (length (one .pattern))) (orderedBehind (firstCode one) (length (one .pattern)) more))
 
   module _ (r : Seen) (e : r ≡ ruleSeen s at c n) where
     pub rules-stop : r ≡ Wrong → Nowhere ≡ rulesStep s at left c n
@@ -367,15 +384,15 @@ module _ (s : List ℕ) (at left c n : ℕ) (h : 0 < left) where
     rules-turn c′ n′ next f =
         let g = good (ruleFits one c n) (firstCode one) (length (one .pattern)) (ruleEnd s at) c′ n′ next e f in
         sym (split-rules
-        ∙ ap (λ (t : Bool). stepIf (t && moreGood) lastEnd) (g .0)
-        ∙ (λ x. rulesStep s (g .3 x) (left - 1) (g .1 x) (g .2 x)))
+        ∙ ap (λ (t : Bool). stepIf (t && moreGood) lastEnd) (g .fits)
+        ∙ (λ x. rulesStep s (g .behind x) (left - 1) (g .code x) (g .bytes x)))
 
 pub rules-end : (s : List ℕ) (at left c n : ℕ) → left ≤ 0 → rulesStep s at left c n ≡ To at
 rules-end s at zero c n h = refl
 rules-end s at (suc m) c n h = absurd (omega arith)
 
 -- Nothing stands before the first rule: its first code point is above 0.
-rules-start : (rs : List Rule) → every goodRule rs && follow 0 0 rs ≡ every goodRule rs && ordered rs
+rules-start : (rs : List Rule) → every goodRule rs && orderedBehind 0 0 rs ≡ every goodRule rs && ordered rs
 rules-start [] = refl
 rules-start (r ∷ more) = go (goodRule r) refl
   where
@@ -522,25 +539,25 @@ module _ (s : List ℕ) (number w most : ℕ) where
   accept-many-rules n i h =
       sym (seven-3 t1 t2 t3 t4 t5 t6 t7 (count-over (ruleAt s) (ruleEnd s) (ruleCount w s) (rulesPlace w s) most (subst (λ (k : ℕ). most < k) i h)))
 
-  pub accept-many-foldings : (m : ℕ) → m ≡ foldingCount w s → 128 < m → false ≡ acceptedIn e s
+  pub accept-many-foldings : (m : ℕ) → m ≡ foldingCount w s → mostFoldings < m → false ≡ acceptedIn e s
   accept-many-foldings m i h =
-      sym (seven-5 t1 t2 t3 t4 t5 t6 t7 (count-over (foldingAt s) foldingEnd (foldingCount w s) 32 128 (subst (λ (k : ℕ). 128 < k) i h)))
+      sym (seven-5 t1 t2 t3 t4 t5 t6 t7 (count-over (foldingAt s) foldingEnd (foldingCount w s) foldingsPlace mostFoldings (subst (λ (k : ℕ). mostFoldings < k) i h)))
 
-  module _ (m : ℕ) (i : m ≡ foldingCount w s) (v : Bool) (d : v ≡ foldingsGood s 32 m 0) where
+  module _ (m : ℕ) (i : m ≡ foldingCount w s) (v : Bool) (d : v ≡ foldingsGood s foldingsPlace m 0) where
     foldings-are : v ≡ t6
-    foldings-are = d ∙ ap (λ (k : ℕ). foldingsGood s 32 k 0) i ∙ foldings-start fs
+    foldings-are = d ∙ ap (λ (k : ℕ). foldingsGood s foldingsPlace k 0) i ∙ foldings-start fs
 
     pub accept-bad-folding : v ≡ false → false ≡ acceptedIn e s
     accept-bad-folding f = sym (seven-6 t1 t2 t3 t4 t5 t6 t7 (sym foldings-are ∙ f))
 
-    module _ (n : ℕ) (j : n ≡ ruleCount w s) (r : Step) (k : r ≡ rulesStep s (32 + 42 * m) n 0 0) where
+    module _ (n : ℕ) (j : n ≡ ruleCount w s) (r : Step) (k : r ≡ rulesStep s (foldingsPlace + 42 * m) n 0 0) where
       rules-are : r ≡ stepIf t4 (plateEnd w s)
-      rules-are = k ∙ ap₂ (λ (p q : ℕ). rulesStep s (32 + 42 * p) q 0 0) i j ∙ ap (λ (t : Bool). stepIf t (plateEnd w s)) (rules-start rs)
+      rules-are = k ∙ ap₂ (λ (p q : ℕ). rulesStep s (foldingsPlace + 42 * p) q 0 0) i j ∙ ap (λ (t : Bool). stepIf t (plateEnd w s)) (rules-start rs)
 
       pub accept-bad-rule : r ≡ Nowhere → false ≡ acceptedIn e s
       accept-bad-rule f = sym (seven-4 t1 t2 t3 t4 t5 t6 t7 (nowhere t4 (plateEnd w s) rules-are f))
 
-      pub accept-end : (x y : ℕ) → x ≡ numberAt s 0 8 → x ≡ number → y ≡ reserved w s → y ≡ 0 → n ≤ most → m ≤ 128 → v ≡ true
+      pub accept-end : (x y : ℕ) → x ≡ numberAt s 0 8 → x ≡ number → y ≡ reserved w s → y ≡ 0 → n ≤ most → m ≤ mostFoldings → v ≡ true
           → (end : ℕ) → r ≡ To end → (z : Bool) → z ≡ closed s end → z ≡ acceptedIn e s
       accept-end x y a a′ b b′ c′ d′ f end g z l =
           let t = to t4 (plateEnd w s) end rules-are g in
@@ -548,5 +565,5 @@ module _ (s : List ℕ) (number w most : ℕ) where
           ∙ sym (seven-all t1 t2 t3 t4 t5 t6 t7 (eq-eqb _ _ (sym a ∙ a′)) (eq-eqb _ _ (sym b ∙ b′))
           (count-in (ruleAt s) (ruleEnd s) (ruleCount w s) (rulesPlace w s) most (subst (λ (q : ℕ). q ≤ most) j c′))
           (t .0)
-          (count-in (foldingAt s) foldingEnd (foldingCount w s) 32 128 (subst (λ (q : ℕ). q ≤ 128) i d′))
+          (count-in (foldingAt s) foldingEnd (foldingCount w s) foldingsPlace mostFoldings (subst (λ (q : ℕ). q ≤ mostFoldings) i d′))
           (sym foldings-are ∙ f))

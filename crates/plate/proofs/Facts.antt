@@ -1,20 +1,25 @@
 -- What is known of an accepted plate: each of its rules is good and stands where the one before ends, and the keys of its foldings rise. `acceptedIn`
--- says so of the plate's lists; a rule's place stays small because a rule has few bits, whatever they say. Assumes nothing.
+-- says so of the plate's lists; a rule's place stays small because there are few rules, and a good rule has few bits. Assumes nothing.
 use Prim.Native.Nat.{ℕ, zero, suc, _+_, _-_, _*_, _≤_}
 use mathlib.Core.Path.{_≡_, sym, subst}
 use mathlib.Core.Bool.{true, _&&_}
 use mathlib.Core.List.{List}
 use native.Mathlib.Omega.{arith}
+use borrow.Author.Tests.{leb-true}
 use lib.Dec.{leb, eqb}
 use lib.ListN.{length}
-use Rattle.laws.specs.Lists.{every}
-use Rattle.laws.proofs.Tests.{and-true}
+use Rattle.laws.specs.Lists.{every, between}
+use Rattle.laws.proofs.Tests.{and-true, between-true}
+use Rattle.chars.specs.Digits.{digit, isAlternative}
 use Rattle.plate.specs.Bits.{numberAt}
-use Rattle.plate.specs.Plate.{Edition, edition1, mostFoldings, goodRule, goodFolding, rising, ordered, goodFoldings, goodRules, goodPlate}
-use Rattle.plate.specs.Read.{many, alternativeEnd, fieldEnd, startPlace, vowelPlace, otherPlace, ruleAt, ruleEnd, ruleCount, reserved, rulesPlace, plateAt, plateEnd, closed, acceptedIn}
+use Rattle.plate.specs.Plate.{Edition, edition1, mostBytes, mostAlternatives, mostDigits, mostFoldings, goodPattern, goodField, goodRule, goodFolding, rising, ordered}
+use Rattle.plate.specs.Plate.{goodFoldings, goodRules, goodPlate}
+use Rattle.plate.specs.Most.{alternativeMost, fieldMost, ruleMost, plateMost}
+use Rattle.plate.specs.Read.{many, alternativeAt, alternativeEnd, fieldAt, fieldEnd, startPlace, vowelPlace, otherPlace, ruleAt, ruleEnd, foldingAt, foldingEnd}
+use Rattle.plate.specs.Read.{ruleCount, foldingCount, reserved, foldingsPlace, rulesPlace, plateAt, plateEnd, closed, acceptedIn}
+use Rattle.plate.specs.Answers.{goodText}
 use Rattle.plate.specs.Stands.{Stands}
-use Rattle.plate.proofs.Place.{number-lt}
-use Rattle.plate.proofs.Listed.{past-most}
+use Rattle.plate.proofs.Listed.{length-many, past-most}
 
 -- ---- what the tests say
 
@@ -28,50 +33,86 @@ module _ (e : Edition) (s : List ℕ) (h : acceptedIn e s ≡ true) where
       let c = and-true (eqb (reserved (e .width) s) 0) (goodPlate e p && z) (b .1) in
       and-true (goodPlate e p) z (c .1) .0
 
-  rules-fit : every goodRule (plateAt (e .width) s .rules) && ordered (plateAt (e .width) s .rules) ≡ true
-  rules-fit =
+  rules-table : (leb (length (plateAt (e .width) s .rules)) (e .most) ≡ true) × (every goodRule (plateAt (e .width) s .rules) && ordered (plateAt (e .width) s .rules) ≡ true)
+  rules-table =
       let p = plateAt (e .width) s in
       let b = and-true (goodRules (e .most) (p .rules)) (goodFoldings (p .foldings)) says-good in
-      and-true (leb (length (p .rules)) (e .most)) (every goodRule (p .rules) && ordered (p .rules)) (b .0) .1
+      and-true (leb (length (p .rules)) (e .most)) (every goodRule (p .rules) && ordered (p .rules)) (b .0)
+
+  foldings-table : (leb (length (plateAt (e .width) s .foldings)) mostFoldings ≡ true)
+      × (every goodFolding (plateAt (e .width) s .foldings) && rising (plateAt (e .width) s .foldings) ≡ true)
+  foldings-table =
+      let p = plateAt (e .width) s in
+      let b = and-true (goodRules (e .most) (p .rules)) (goodFoldings (p .foldings)) says-good in
+      and-true (leb (length (p .foldings)) mostFoldings) (every goodFolding (p .foldings) && rising (p .foldings)) (b .1)
+
+  -- No more rules than the edition has, and no more foldings than any.
+  pub rules-few : ruleCount (e .width) s ≤ e .most
+  rules-few =
+      let n = leb-true (length (plateAt (e .width) s .rules)) (e .most) (rules-table .0) in
+      subst (λ (k : ℕ). k ≤ e .most) (length-many (ruleAt s) (ruleEnd s) (ruleCount (e .width) s) (rulesPlace (e .width) s)) n
+
+  pub foldings-few : foldingCount (e .width) s ≤ mostFoldings
+  foldings-few =
+      let n = leb-true (length (plateAt (e .width) s .foldings)) mostFoldings (foldings-table .0) in
+      subst (λ (k : ℕ). k ≤ mostFoldings) (length-many (foldingAt s) foldingEnd (foldingCount (e .width) s) foldingsPlace) n
 
   pub rules-good : every goodRule (plateAt (e .width) s .rules) ≡ true
-  rules-good = let rs = plateAt (e .width) s .rules in and-true (every goodRule rs) (ordered rs) rules-fit .0
+  rules-good = let rs = plateAt (e .width) s .rules in and-true (every goodRule rs) (ordered rs) (rules-table .1) .0
 
   pub rules-ordered : ordered (plateAt (e .width) s .rules) ≡ true
-  rules-ordered = let rs = plateAt (e .width) s .rules in and-true (every goodRule rs) (ordered rs) rules-fit .1
+  rules-ordered = let rs = plateAt (e .width) s .rules in and-true (every goodRule rs) (ordered rs) (rules-table .1) .1
 
   pub keys-rise : rising (plateAt (e .width) s .foldings) ≡ true
-  keys-rise =
-      let fs = plateAt (e .width) s .foldings in
-      let b = and-true (goodRules (e .most) (plateAt (e .width) s .rules)) (goodFoldings fs) says-good in
-      let c = and-true (leb (length fs) mostFoldings) (every goodFolding fs && rising fs) (b .1) in
-      and-true (every goodFolding fs) (rising fs) (c .1) .1
+  keys-rise = let fs = plateAt (e .width) s .foldings in and-true (every goodFolding fs) (rising fs) (foldings-table .1) .1
 
 -- ---- where rules stand
 
+-- The fields of a good rule, each no farther than the most bits before it.
+pub record Near (s : List ℕ) (p : ℕ) : Type 0 where
+  pub start : startPlace s p ≤ p + 5 + 8 * mostBytes
+  pub vowel : vowelPlace s p ≤ startPlace s p + fieldMost
+  pub other : otherPlace s p ≤ vowelPlace s p + fieldMost
+  pub end : ruleEnd s p ≤ otherPlace s p + fieldMost
+
 module _ (s : List ℕ) where
-  alternative-most : (p : ℕ) → alternativeEnd s p ≤ p + 31
-  alternative-most p = let n = number-lt s p 3 in omega arith
+  alternative-most : (p : ℕ) → isAlternative (alternativeAt s p) ≡ true → alternativeEnd s p ≤ p + alternativeMost
+  alternative-most p h =
+      let a = alternativeAt s p in
+      let n = leb-true (length a) mostDigits (and-true (leb (length a) mostDigits) (every digit a) h .0) in
+      omega (arith, length-many (λ q. 48 + numberAt s q 4) (λ q. q + 4) (numberAt s p 3) (p + 3))
 
-  field-most : (p : ℕ) → fieldEnd s p ≤ p + 469
-  field-most p = let n = number-lt s p 4 in let m = past-most (alternativeEnd s) 31 alternative-most (numberAt s p 4) (p + 4) in omega arith
+  field-most : (p : ℕ) → goodField (fieldAt s p) ≡ true → fieldEnd s p ≤ p + fieldMost
+  field-most p h =
+      let f = fieldAt s p in
+      let b = and-true (between 1 mostAlternatives (length f)) (every isAlternative f) h in
+      let few = between-true 1 mostAlternatives (length f) (b .0) in
+      let m = past-most (alternativeAt s) (alternativeEnd s) isAlternative alternativeMost alternative-most (numberAt s p 4) (p + 4) (b .1) in
+      omega (arith, few .1, length-many (alternativeAt s) (alternativeEnd s) (numberAt s p 4) (p + 4))
 
-  rule-most : (p : ℕ) → ruleEnd s p ≤ p + 1660
-  rule-most p =
-      let n = number-lt s p 5 in
-      omega (arith, field-most (startPlace s p), field-most (vowelPlace s p), field-most (otherPlace s p))
+  pub rule-near : (p : ℕ) → goodRule (ruleAt s p) ≡ true → Near s p
+  rule-near p h =
+      let r = ruleAt s p in
+      let a = and-true (goodPattern (r .pattern)) (goodField (r .start) && (goodField (r .vowel) && goodField (r .other))) h in
+      let b = and-true (goodField (r .start)) (goodField (r .vowel) && goodField (r .other)) (a .1) in
+      let c = and-true (goodField (r .vowel)) (goodField (r .other)) (b .1) in
+      let few = between-true 1 mostBytes (length (r .pattern)) (and-true (between 1 mostBytes (length (r .pattern))) (goodText (r .pattern)) (a .0) .0) in
+      record {
+        start = omega (arith, few .1, length-many (λ q. numberAt s q 8) (λ q. q + 8) (numberAt s p 5) (p + 5));
+        vowel = field-most (startPlace s p) (b .0);
+        other = field-most (vowelPlace s p) (c .0);
+        end = field-most (otherPlace s p) (c .1);
+      }
 
-  good-stand : (n at : ℕ) → at + 1660 * n ≤ 3000000 → every goodRule (many (ruleAt s) (ruleEnd s) n at) ≡ true → Stands s n at
+  good-stand : (n at : ℕ) → at + ruleMost * n ≤ plateMost → every goodRule (many (ruleAt s) (ruleEnd s) n at) ≡ true → Stands s n at
   good-stand zero at h g = tt
   good-stand (suc n) at h g =
       let b = and-true (goodRule (ruleAt s at)) (every goodRule (many (ruleAt s) (ruleEnd s) n (ruleEnd s at))) g in
-      let m = rule-most at in
-      (record { near = omega arith; good = b .0 }, good-stand n (ruleEnd s at) (omega arith) (b .1))
+      let m = rule-near at (b .0) in
+      (record { near = omega arith; good = b .0 }, good-stand n (ruleEnd s at) (omega (arith, m .start, m .vowel, m .other, m .end)) (b .1))
 
 -- The rules of an accepted plate stand from the first place on.
 pub all-stand : (s : List ℕ) → acceptedIn edition1 s ≡ true → (n : ℕ) → n ≡ ruleCount (edition1 .width) s → Stands s n (rulesPlace (edition1 .width) s)
 all-stand s h n e =
-    let r = number-lt s 8 10 in
-    let f = number-lt s 18 8 in
     subst (λ (m : ℕ). Stands s m (rulesPlace (edition1 .width) s)) (sym e)
-    (good-stand s (ruleCount (edition1 .width) s) (rulesPlace (edition1 .width) s) (omega arith) (rules-good edition1 s h))
+    (good-stand s (ruleCount (edition1 .width) s) (rulesPlace (edition1 .width) s) (omega (arith, rules-few edition1 s h, foldings-few edition1 s h)) (rules-good edition1 s h))

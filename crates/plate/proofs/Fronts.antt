@@ -18,7 +18,7 @@ use Rattle.chars.proofs.Texts.{text-front}
 use Rattle.chars.proofs.Exact.{decoded-one, bytes-count, scalar-most}
 use Rattle.chars.proofs.Places.{numbers}
 use Rattle.plate.specs.Bits.{numberAt}
-use Rattle.plate.specs.Plate.{nonzeroByte, goodPattern}
+use Rattle.plate.specs.Plate.{mostBytes, nonzeroByte, goodPattern}
 use Rattle.plate.specs.Read.{many}
 use Rattle.plate.specs.Answers.{bytesAt, frontOf, frontTo, goodText, codeIf, firstOf}
 use Rattle.plate.specs.declared.Front as Front
@@ -179,7 +179,7 @@ first-nonzero [] g = absurd (false≢true g)
 first-nonzero (x ∷ xs) g = go (charOf (x ∷ xs)) refl
   where
     good : goodText (x ∷ xs) ≡ true
-    good = and-true (between 1 16 (length (x ∷ xs))) (goodText (x ∷ xs)) g .1
+    good = and-true (between 1 mostBytes (length (x ∷ xs))) (goodText (x ∷ xs)) g .1
 
     go : (r : Char) → charOf (x ∷ xs) ≡ r → ltb 0 (codeOf r) ≡ true
     go (One c w) f = and-true (ltb 0 c) (goodText (drop w (x ∷ xs))) (sym (front-text (x ∷ xs) c w f) ∙ good) .0
@@ -206,30 +206,26 @@ module _ (s : List ℕ) (n at : ℕ) (h : 0 < n) (r : Front.Front) (e : r ≡ fr
 -- ---- a pattern
 
 module _ (s : List ℕ) (n at : ℕ) where
-  first-out : between 1 16 (length (bytesAt s n at)) ≡ false → FirstIs.None ≡ firstOf (bytesAt s n at)
+  first-out : between 1 mostBytes (length (bytesAt s n at)) ≡ false → FirstIs.None ≡ firstOf (bytesAt s n at)
   first-out h = sym (ap (λ (t : Bool). codeIf t (codeOf (charOf (bytesAt s n at)))) (and-left-false _ (goodText (bytesAt s n at)) h))
 
   pub first-none : n < 1 → FirstIs.None ≡ firstOf (bytesAt s n at)
-  first-none h = first-out (between-none (λ p. numberAt s p 8) (λ p. p + 8) n at 16 h)
+  first-none h = first-out (between-none (λ p. numberAt s p 8) (λ p. p + 8) n at mostBytes h)
 
-  pub first-over : 16 < n → FirstIs.None ≡ firstOf (bytesAt s n at)
-  first-over h = first-out (between-over (λ p. numberAt s p 8) (λ p. p + 8) n at 16 h)
+  pub first-over : mostBytes < n → FirstIs.None ≡ firstOf (bytesAt s n at)
+  first-over h = first-out (between-over (λ p. numberAt s p 8) (λ p. p + 8) n at mostBytes h)
 
-  module _ (h : 1 ≤ n) (k : n ≤ 16) (r : Front.Front) (e : r ≡ frontOf (charOf (bytesAt s n at))) where
+  module _ (h : 1 ≤ n) (k : n ≤ mostBytes) (r : Front.Front) (e : r ≡ frontOf (charOf (bytesAt s n at))) where
     -- The count is right, so the text decides.
     decides : (t : Bool) → goodText (bytesAt s n at) ≡ t → codeIf t (codeOf (charOf (bytesAt s n at))) ≡ firstOf (bytesAt s n at)
     decides t g =
         ap (λ (b : Bool). codeIf b (codeOf (charOf (bytesAt s n at))))
-        (sym (and-holds _ (goodText (bytesAt s n at)) (between-in (λ p. numberAt s p 8) (λ p. p + 8) n at 16 h k) ∙ g))
+        (sym (and-holds _ (goodText (bytesAt s n at)) (between-in (λ p. numberAt s p 8) (λ p. p + 8) n at mostBytes h k) ∙ g))
 
     pub first-bad : r ≡ FrontIs.Not → FirstIs.None ≡ firstOf (bytesAt s n at)
     first-bad f = decides false (text-stop s n at h r e f)
 
-    module _ (c w : ℕ) (f : r ≡ FrontIs.Is c w) (v : Bool) (d : v ≡ goodText (bytesAt s (n - w) (at + 8 * w))) where
-      pub first-is : v ≡ true → FirstIs.Code c ≡ firstOf (bytesAt s n at)
-      first-is g =
-          ap FirstIs.Code (sym (ap codeOf (front-is (charOf (bytesAt s n at)) c w (sym e ∙ f) .0)))
-          ∙ decides true (sym (text-turn s n at h r e c w f) ∙ sym d ∙ g)
-
-      pub first-not : v ≡ false → FirstIs.None ≡ firstOf (bytesAt s n at)
-      first-not g = decides false (sym (text-turn s n at h r e c w f) ∙ sym d ∙ g)
+    pub first-decided : (c w : ℕ) → r ≡ FrontIs.Is c w → (v : Bool) → v ≡ goodText (bytesAt s (n - w) (at + 8 * w)) → (b : Bool) → v ≡ b → codeIf b c ≡ firstOf (bytesAt s n at)
+    first-decided c w f v d b g =
+        ap (codeIf b) (sym (ap codeOf (front-is (charOf (bytesAt s n at)) c w (sym e ∙ f) .0)))
+        ∙ decides b (sym (text-turn s n at h r e c w f) ∙ sym d ∙ g)

@@ -58,6 +58,14 @@ module _ {A : Type 0} (f : ℕ → A) (e : ℕ → ℕ) where
 
   -- ---- a test of each, one by one
 
+  -- Where each that passes a test ends at most w behind where it begins, n that pass end at most n times w behind.
+  pub past-most : (t : A → Bool) (w : ℕ) → ((p : ℕ) → t (f p) ≡ true → e p ≤ p + w) → (n at : ℕ) → every t (many f e n at) ≡ true → past e n at ≤ at + w * n
+  past-most t w g zero at h = omega arith
+  past-most t w g (suc n) at h =
+      let b = and-true (t (f at)) (every t (many f e n (e at))) h in
+      let i = g at (b .0) in
+      let j = past-most t w g n (e at) (b .1) in omega (arith, mul-suc w n)
+
   module _ (t : A → Bool) (n at : ℕ) where
     pub every-turn : 0 < n → t (f at) ≡ true → every t (many f e (n - 1) (e at)) ≡ every t (many f e n at)
     every-turn h g = sym (ap (every t) (many-cons n at h) ∙ and-holds (t (f at)) (every t (many f e (n - 1) (e at))) g)
@@ -92,11 +100,6 @@ module _ (e : ℕ → ℕ) where
   pub past-grows : ((p : ℕ) → p ≤ e p) → (n at : ℕ) → at ≤ past e n at
   past-grows g zero at = omega arith
   past-grows g (suc n) at = omega (arith, g at, past-grows g n (e at))
-
-  -- Where each ends at most w behind where it begins, n end at most n times w behind.
-  pub past-most : (w : ℕ) → ((p : ℕ) → e p ≤ p + w) → (n at : ℕ) → past e n at ≤ at + w * n
-  past-most w g zero at = omega arith
-  past-most w g (suc n) at = let i = g at in let j = past-most w g n (e at) in omega (arith, mul-suc w n)
 
   pub past-end : (n at : ℕ) → n ≤ 0 → past e n at ≡ at
   past-end zero at h = refl

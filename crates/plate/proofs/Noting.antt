@@ -15,16 +15,17 @@ use Rattle.laws.specs.Lists.{every}
 use Rattle.laws.proofs.Tests.{and-true, both-true, or-true}
 use Rattle.laws.proofs.Bits.{by-order}
 use Rattle.laws.proofs.Many.{every-append}
+use Rattle.plate.specs.Most.{mostRules}
 use Rattle.plate.specs.Plate.{Rule, firstCode, goodRule, edition1}
 use Rattle.plate.specs.Stands.{Here, Stands}
-use Rattle.plate.specs.Read.{many, past, ruleAt, ruleEnd, ruleCount, foldingCount, rulesPlace, plateAt, acceptedIn}
+use Rattle.plate.specs.Read.{foldingsPlace, many, past, ruleAt, ruleEnd, ruleCount, foldingCount, rulesPlace, plateAt, acceptedIn}
 use Rattle.plate.specs.Answers.{inOrder, ruleFits, ruleSeen}
-use Rattle.plate.specs.Noted.{isOf, isOther, GroupIs, Placed, NotedFrom, Noted, NotedIf}
+use Rattle.plate.specs.Noted.{half, notedCharacters, isOf, isOther, GroupIs, Placed, NotedFrom, Noted, NotedIf}
 use Rattle.plate.specs.declared.Seen.{Seen}
 use Rattle.plate.specs.declared.Seen.the-variants.{Good}
 use Rattle.plate.proofs.Listed.{length-many, getD-many, many-snoc, past-snoc}
 use Rattle.plate.proofs.Facts.{all-stand}
-use Rattle.plate.proofs.Accepted.{good}
+use Rattle.plate.proofs.Accepted.{Taken, good}
 
 -- ---- one rule more
 
@@ -112,14 +113,14 @@ pub record Going (s : List ℕ) (from i at begun code : ℕ) (places groups : Li
 no-rules : (c : ℕ) → GroupIs [] c 0 0
 no-rules c = record { rising = omega arith; within = omega arith; before = refl; inside = refl; after = refl }
 
-pub going-start : (s : List ℕ) (from : ℕ) (places groups : List ℕ) → groups ≡ replicate 384 0 → Going s from 0 from 0 0 places groups
+pub going-start : (s : List ℕ) (from : ℕ) (places groups : List ℕ) → groups ≡ replicate notedCharacters 0 → Going s from 0 from 0 0 places groups
 going-start s from places groups e = record {
   here = refl;
   noted = (
     record { room = omega arith; at = λ i h. absurd (omega arith) },
     record {
-      size = ap length e ∙ length-replicate {A = ℕ} 384 0;
-      of = λ c h. subst (λ (g : ℕ). GroupIs [] c (g / 65536) (g % 65536)) (sym (ap (λ (l : List ℕ). getD l c 0) e ∙ getD-replicate {A = ℕ} 384 c 0 0 h)) (no-rules c);
+      size = ap length e ∙ length-replicate {A = ℕ} notedCharacters 0;
+      of = λ c h. subst (λ (g : ℕ). GroupIs [] c (g / half) (g % half)) (sym (ap (λ (l : List ℕ). getD l c 0) e ∙ getD-replicate {A = ℕ} notedCharacters c 0 0 h)) (no-rules c);
     },
   );
   last = no-rules 0;
@@ -135,14 +136,14 @@ module _ (s : List ℕ) (from i at begun code : ℕ) (places groups : List ℕ) 
   abbrev rules : List Rule
   rules = many (ruleAt s) (ruleEnd s) i from
 
-  seen : (ruleFits one code n ≡ true) × (firstCode one ≡ c) × (length (one .pattern) ≡ k) × (ruleEnd s at ≡ next)
+  seen : Taken (ruleFits one code n) (firstCode one) (length (one .pattern)) (ruleEnd s at) c k next
   seen = good (ruleFits one code n) (firstCode one) (length (one .pattern)) (ruleEnd s at) c k next e f
 
   -- Its first code point is not below the last.
   up : code ≤ c
   up =
-      let t = and-true (goodRule one) (inOrder code n (firstCode one) (length (one .pattern))) (seen .0) .1 in
-      let same = seen .1 in
+      let t = and-true (goodRule one) (inOrder code n (firstCode one) (length (one .pattern))) (seen .fits) .1 in
+      let same = seen .code in
       ⊎-elim
       (λ w. let l = ltb-true code (firstCode one) w in omega arith)
       (λ w. let q = eqb-true code (firstCode one) (and-true (eqb code (firstCode one)) (leb (length (one .pattern)) n) w .0) in omega arith)
@@ -159,34 +160,34 @@ module _ (s : List ℕ) (from i at begun code : ℕ) (places groups : List ℕ) 
       ⊎-elim
       (λ w.
       subst (λ (x : ℕ). GroupIs (rules ++ (one ∷ [])) c x (suc i)) (sym (w .1))
-      (same-grows rules one c i long (seen .1) begun (subst (λ (x : ℕ). GroupIs rules x begun i) (sym (w .0)) (g .last))))
+      (same-grows rules one c i long (seen .code) begun (subst (λ (x : ℕ). GroupIs rules x begun i) (sym (w .0)) (g .last))))
       (λ w.
       let ne = w .0 in
       let high : code < c = let u = up in omega arith in
       subst (λ (x : ℕ). GroupIs (rules ++ (one ∷ [])) c x (suc i)) (sym (w .1))
-      (new-begins rules one c i long (seen .1) (apart code c rules high (g .low))))
+      (new-begins rules one c i long (seen .code) (apart code c rules high (g .low))))
       o
 
-  module _ (v : ℕ) (is : v ≡ b * 65536 + suc i) (few : suc i ≤ 1500) where
+  module _ (v : ℕ) (is : v ≡ b * half + suc i) (few : suc i ≤ mostRules) where
     abbrev stored : List ℕ
     stored = set groups c v
 
-    group-of : (x : ℕ) → x < 384 → GroupIs (rules ++ (one ∷ [])) x (getD stored x 0 / 65536) (getD stored x 0 % 65536)
+    group-of : (x : ℕ) → x < notedCharacters → GroupIs (rules ++ (one ∷ [])) x (getD stored x 0 / half) (getD stored x 0 % half)
     group-of x h = go (eqb x c) refl
       where
-        go : (t : Bool) → eqb x c ≡ t → GroupIs (rules ++ (one ∷ [])) x (getD stored x 0 / 65536) (getD stored x 0 % 65536)
+        go : (t : Bool) → eqb x c ≡ t → GroupIs (rules ++ (one ∷ [])) x (getD stored x 0 / half) (getD stored x 0 % half)
         go true q =
             let same : x ≡ c = eqb-true x c q in
             let room = g .noted .1 .size in
             let there : c < length groups = omega arith in
             let is-v : getD stored x 0 ≡ v = ap (λ (y : ℕ). getD stored y 0) same ∙ getD-set-same groups c v 0 there in
-            let from-b : getD stored x 0 / 65536 ≡ b = omega (arith, is-v, is) in
-            let to-i : getD stored x 0 % 65536 ≡ suc i = omega (arith, is-v, is) in
+            let from-b : getD stored x 0 / half ≡ b = omega (arith, is-v, is) in
+            let to-i : getD stored x 0 % half ≡ suc i = omega (arith, is-v, is) in
             rw (from-b, to-i, same) own
         go false q =
             let differs : x ≡ c → ⊥ = λ y. false≢true (sym q ∙ eq-eqb x c y) in
             let kept : getD stored x 0 ≡ getD groups x 0 = getD-set-other groups c x v 0 differs in
-            rw kept (other-keeps rules one x (getD groups x 0 / 65536) (getD groups x 0 % 65536) (g .noted .1 .of x h) (λ y. differs (sym y ∙ seen .1)))
+            rw kept (other-keeps rules one x (getD groups x 0 / half) (getD groups x 0 % half) (g .noted .1 .of x h) (λ y. differs (sym y ∙ seen .code)))
 
     place-of : i < length places → (j : ℕ) → j < suc i → getD (set places i at) j 0 ≡ past (ruleEnd s) j from
     place-of room j h =
@@ -198,29 +199,29 @@ module _ (s : List ℕ) (from i at begun code : ℕ) (places groups : List ℕ) 
 
     turn : i < length places → Going s from (suc i) next b c (set places i at) stored
     turn room = record {
-      here = sym (seen .3) ∙ ap (ruleEnd s) (g .here) ∙ sym (past-snoc (ruleEnd s) i from);
+      here = sym (seen .behind) ∙ ap (ruleEnd s) (g .here) ∙ sym (past-snoc (ruleEnd s) i from);
       noted = (
         record { room = omega (arith, length-set places i at); at = place-of room },
         record {
           size = length-set groups c v ∙ g .noted .1 .size;
-          of = λ x h. subst (λ (l : List Rule). GroupIs l x (getD stored x 0 / 65536) (getD stored x 0 % 65536)) (sym behind) (group-of x h);
+          of = λ x h. subst (λ (l : List Rule). GroupIs l x (getD stored x 0 / half) (getD stored x 0 % half)) (sym behind) (group-of x h);
         },
       );
       last = subst (λ (l : List Rule). GroupIs l c b (suc i)) (sym behind) own;
       low = ap (every (upToCode c)) behind ∙ every-append (upToCode c) rules (one ∷ [])
-          ∙ both-true (raised code c rules up (g .low)) (both-true (le-leb (firstCode one) c (let q = seen .1 in omega arith)) refl);
+          ∙ both-true (raised code c rules up (g .low)) (both-true (le-leb (firstCode one) c (let q = seen .code in omega arith)) refl);
     }
 
   -- One rule more is noted.
-  pub going-turn : i + 1 ≤ 1500 → i < length places → Going s from (i + 1) next b c (set places i at) (set groups c (b * 65536 + (i + 1)))
+  pub going-turn : i + 1 ≤ mostRules → i < length places → Going s from (i + 1) next b c (set places i at) (set groups c (b * half + (i + 1)))
   going-turn few room =
-      subst (λ (m : ℕ). Going s from m next b c (set places i at) (set groups c (b * 65536 + (i + 1)))) (sym (add-one i))
-      (turn (b * 65536 + (i + 1)) (omega arith) (omega arith) room)
+      subst (λ (m : ℕ). Going s from m next b c (set places i at) (set groups c (b * half + (i + 1)))) (sym (add-one i))
+      (turn (b * half + (i + 1)) (omega arith) (omega arith) room)
 
 -- Of all rules that the head counts, it is of the plate.
-pub noted-all : (w : ℕ) (s places groups : List ℕ) (m n : ℕ) → m ≡ foldingCount w s → n ≡ ruleCount w s → NotedFrom s (32 + 42 * m) n places groups → Noted w s places groups
+pub noted-all : (w : ℕ) (s places groups : List ℕ) (m n : ℕ) → m ≡ foldingCount w s → n ≡ ruleCount w s → NotedFrom s (foldingsPlace + 42 * m) n places groups → Noted w s places groups
 noted-all w s places groups m n e f h =
-    subst (λ (k : ℕ). NotedFrom s (32 + 42 * k) (ruleCount w s) places groups) e (subst (λ (k : ℕ). NotedFrom s (32 + 42 * m) k places groups) f h)
+    subst (λ (k : ℕ). NotedFrom s (foldingsPlace + 42 * k) (ruleCount w s) places groups) e (subst (λ (k : ℕ). NotedFrom s (foldingsPlace + 42 * m) k places groups) f h)
 
 pub noted-if : (t : Bool) (w : ℕ) (s places groups : List ℕ) → Noted w s places groups → NotedIf t w s places groups
 noted-if true w s places groups n = n

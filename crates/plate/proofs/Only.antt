@@ -19,7 +19,7 @@ use Rattle.plate.specs.declared.reader.BitReader.{BitReader}
 use Rattle.plate.specs.declared.reader.Folding.{Folding}
 
 module _ (s : List ℕ) where
-  -- `count` alike
+  -- `size` alike
   pub bits : (at n r r′ : ℕ) → (r ≡ numberAt s at n) × (r < 2 ^ n) → (r′ ≡ numberAt s at n) × (r′ < 2 ^ n) → r ≡ r′
   bits at n r r′ e f = only (e .0) (f .0)
 

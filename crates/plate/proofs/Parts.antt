@@ -21,10 +21,11 @@ use Rattle.chars.proofs.Texts.{text-front, chars-front}
 use Rattle.chars.proofs.Exact.{decoded-one, bytes-count}
 use Rattle.chars.specs.Digits.{digit, isAlternative}
 use Rattle.plate.specs.Bits.{numberAt}
-use Rattle.plate.specs.Plate.{Folding, nonzeroByte, goodField, goodPattern, rising}
+use Rattle.plate.specs.Plate.{mostDigits, mostAlternatives, mostBytes, Folding, nonzeroByte, goodField, goodPattern, rising}
+use Rattle.plate.specs.Most.{ruleMost}
 use Rattle.plate.specs.Read.{many, past, alternativeAt, alternativeEnd, fieldAt, fieldEnd, patternAt, ruleAt, foldingAt, foldingEnd, foldBy}
 use Rattle.plate.specs.Answers.{bytesAt, frontOf, goodText}
-use Rattle.plate.specs.Stands.{Here, lettersFrom, Mark, LetterIs, fieldOf, fieldPlace, held, heldField}
+use Rattle.plate.specs.Stands.{Here, lettersFrom, Mark, LetterIs, fieldOf, fieldPlace, heldAlternative, heldField}
 use Rattle.plate.specs.declared.Front as Front
 use Rattle.plate.specs.declared.Front.the-variants as FrontIs
 use Rattle.plate.specs.declared.Alternative.{Alternative}
@@ -32,6 +33,7 @@ use Rattle.plate.specs.declared.Field.{Field}
 use Rattle.plate.proofs.Place.{number-lt}
 use Rattle.plate.proofs.Windows.{number-append, middle}
 use Rattle.plate.proofs.Listed.{length-many, many-cons, many-snoc, past-cons, past-add, past-snoc, every-at, take-least}
+use Rattle.plate.proofs.Facts.{rule-near}
 use Rattle.plate.proofs.Fronts.{front-is, bytes-length, bytes-drop, ascii, front-text, not-front}
 
 -- ---- foldings
@@ -114,13 +116,25 @@ module _ (s : List ℕ) where
       place-other w x y o g =
           g ∙ ap (fieldEnd s) (f ∙ ap (λ (k : ℕ). fieldEnd s (at + 5 + 8 * k)) e) ∙ ap (fieldPlace s at) {x = 2} {y = which} (omega arith)
 
+  -- A field begins within its rule.
+  module _ (at : ℕ) (here : Here s at) where
+    pub vowel-near : (n : ℕ) → n ≡ numberAt s at 5 → (v : ℕ) → v ≡ fieldEnd s (at + 5 + 8 * n) → v ≤ at + ruleMost
+    vowel-near n e v f =
+        let m = rule-near s at (here .good) in
+        omega (arith, m .start, m .vowel, f ∙ ap (λ (k : ℕ). fieldEnd s (at + 5 + 8 * k)) e)
+
+    pub field-near : (which r : ℕ) → r ≡ fieldPlace s at which → r ≤ at + ruleMost
+    field-near zero r e = let m = rule-near s at (here .good) in omega (arith, m .start)
+    field-near (suc zero) r e = let m = rule-near s at (here .good) in omega (arith, m .start, m .vowel)
+    field-near (suc (suc k)) r e = let m = rule-near s at (here .good) in omega (arith, m .start, m .vowel, m .other)
+
   -- ---- patterns
 
   module _ (at : ℕ) (here : Here s at) where
-    pub pattern-count : (n : ℕ) → n ≡ numberAt s at 5 → (n ≡ length (patternAt s at)) × (0 < n) × (n ≤ 16)
+    pub pattern-count : (n : ℕ) → n ≡ numberAt s at 5 → (n ≡ length (patternAt s at)) × (0 < n) × (n ≤ mostBytes)
     pattern-count n e =
         let l = e ∙ sym (bytes-length s (numberAt s at 5) (at + 5)) in
-        let b = between-true 1 16 (length (patternAt s at)) (and-true (between 1 16 (length (patternAt s at))) (goodText (patternAt s at)) pattern-good .0) in
+        let b = between-true 1 mostBytes (length (patternAt s at)) (and-true (between 1 mostBytes (length (patternAt s at))) (goodText (patternAt s at)) pattern-good .0) in
         (l, omega (arith, l), omega (arith, l))
       where
         pattern-good : goodPattern (patternAt s at) ≡ true
@@ -128,7 +142,7 @@ module _ (s : List ℕ) where
 
     pattern-text : goodText (patternAt s at) ≡ true
     pattern-text =
-        and-true (between 1 16 (length (patternAt s at))) (goodText (patternAt s at))
+        and-true (between 1 mostBytes (length (patternAt s at))) (goodText (patternAt s at))
         (and-true (goodPattern (ruleAt s at .pattern)) (goodField (ruleAt s at .start) && (goodField (ruleAt s at .vowel) && goodField (ruleAt s at .other))) (here .good) .0)
         .1
 
@@ -195,10 +209,10 @@ module _ (s : List ℕ) where
     abbrev digitsAt : ℕ → List ℕ
     digitsAt k = many digitAt (λ p. p + 4) k (at + 3)
 
-    pub count-six : isAlternative (alternativeAt s at) ≡ true → n ≤ 6
+    pub count-six : isAlternative (alternativeAt s at) ≡ true → n ≤ mostDigits
     count-six h =
-        subst (λ (k : ℕ). k ≤ 6) (length-many digitAt (λ p. p + 4) (numberAt s at 3) (at + 3) ∙ sym e)
-        (leb-true (length (alternativeAt s at)) 6 (and-true (leb (length (alternativeAt s at)) 6) (every digit (alternativeAt s at)) h .0))
+        subst (λ (k : ℕ). k ≤ mostDigits) (length-many digitAt (λ p. p + 4) (numberAt s at 3) (at + 3) ∙ sym e)
+        (leb-true (length (alternativeAt s at)) mostDigits (and-true (leb (length (alternativeAt s at)) mostDigits) (every digit (alternativeAt s at)) h .0))
 
     -- Digit k stands behind k others, and the rest of n behind it.
     digit-at : (v : ℕ) → v ≡ numberAt s (at + 3) (4 * n) → (k : ℕ) → k < n → 48 + v / 2 ^ (4 * n - 4 * k - 4) % 16 ≡ digitAt (past (λ p. p + 4) k (at + 3))
@@ -207,20 +221,20 @@ module _ (s : List ℕ) where
         ∙ ap (λ (x : ℕ). 48 + x) (middle s (at + 3) (4 * k) 4 (4 * n - 4 * k - 4))
         ∙ ap digitAt (sym (past-add 4 k (at + 3)))
 
-    pub digits-store : (v : ℕ) → v ≡ numberAt s (at + 3) (4 * n) → (k : ℕ) → k < n → k < 6 → (array : List ℕ) → array ≡ digitsAt k ++ replicate (6 - k) 48
-        → set array k (48 + v / 2 ^ (4 * n - 4 * k - 4) % 16) ≡ digitsAt (k + 1) ++ replicate (6 - (k + 1)) 48
+    pub digits-store : (v : ℕ) → v ≡ numberAt s (at + 3) (4 * n) → (k : ℕ) → k < n → k < mostDigits → (array : List ℕ) → array ≡ digitsAt k ++ replicate (mostDigits - k) 48
+        → set array k (48 + v / 2 ^ (4 * n - 4 * k - 4) % 16) ≡ digitsAt (k + 1) ++ replicate (mostDigits - (k + 1)) 48
     digits-store v f k h i array g =
-        store 6 k (digitsAt k) array 48 _ i (length-many digitAt (λ p. p + 4) k (at + 3)) g
-        ∙ ap (λ (x : ℕ). (digitsAt k ++ (x ∷ [])) ++ replicate (6 - (k + 1)) 48) (digit-at v f k h)
-        ∙ ap (λ (l : List ℕ). l ++ replicate (6 - (k + 1)) 48) (sym (many-snoc digitAt (λ p. p + 4) k (at + 3)))
-        ∙ ap (λ (m : ℕ). digitsAt m ++ replicate (6 - (k + 1)) 48) (sym (add-one k))
+        store mostDigits k (digitsAt k) array 48 _ i (length-many digitAt (λ p. p + 4) k (at + 3)) g
+        ∙ ap (λ (x : ℕ). (digitsAt k ++ (x ∷ [])) ++ replicate (mostDigits - (k + 1)) 48) (digit-at v f k h)
+        ∙ ap (λ (l : List ℕ). l ++ replicate (mostDigits - (k + 1)) 48) (sym (many-snoc digitAt (λ p. p + 4) k (at + 3)))
+        ∙ ap (λ (m : ℕ). digitsAt m ++ replicate (mostDigits - (k + 1)) 48) (sym (add-one k))
 
-    pub alternative-held : (k : ℕ) → k ≡ n → (array : List ℕ) → array ≡ digitsAt k ++ replicate (6 - k) 48
-        → _≡_ {A = Alternative} (record { digits = array; count = n }) (held (alternativeAt s at))
+    pub alternative-held : (k : ℕ) → k ≡ n → (array : List ℕ) → array ≡ digitsAt k ++ replicate (mostDigits - k) 48
+        → _≡_ {A = Alternative} (record { digits = array; count = n }) (heldAlternative (alternativeAt s at))
     alternative-held k h array f =
         let len = length-many digitAt (λ p. p + 4) (numberAt s at 3) (at + 3) in
         λ i. record {
-          digits = (f ∙ ap (λ (m : ℕ). digitsAt m ++ replicate (6 - m) 48) (h ∙ e) ∙ ap (λ (m : ℕ). alternativeAt s at ++ replicate (6 - m) 48) (sym len)) i;
+          digits = (f ∙ ap (λ (m : ℕ). digitsAt m ++ replicate (mostDigits - m) 48) (h ∙ e) ∙ ap (λ (m : ℕ). alternativeAt s at ++ replicate (mostDigits - m) 48) (sym len)) i;
           count = (e ∙ sym len) i;
         }
 
@@ -253,17 +267,17 @@ module _ (s : List ℕ) where
     good : goodField (fieldAt s from) ≡ true
     good = ap (λ (p : ℕ). goodField (fieldAt s p)) e ∙ field-good at here which
 
-    pub field-eight : n ≤ 8
+    pub field-eight : n ≤ mostAlternatives
     field-eight =
         let l = length (fieldAt s from) in
-        subst (λ (m : ℕ). m ≤ 8) (length-many (alternativeAt s) (alternativeEnd s) (numberAt s from 4) (from + 4) ∙ sym d)
-        (between-true 1 8 l (and-true (between 1 8 l) (every isAlternative (fieldAt s from)) good .0) .1)
+        subst (λ (m : ℕ). m ≤ mostAlternatives) (length-many (alternativeAt s) (alternativeEnd s) (numberAt s from 4) (from + 4) ∙ sym d)
+        (between-true 1 mostAlternatives l (and-true (between 1 mostAlternatives l) (every isAlternative (fieldAt s from)) good .0) .1)
 
     pub alternative-good : (k : ℕ) → k < n → (place : ℕ) → place ≡ past (alternativeEnd s) k (from + 4) → isAlternative (alternativeAt s place) ≡ true
     alternative-good k h place f =
         ap (λ (p : ℕ). isAlternative (alternativeAt s p)) f
         ∙ every-at (alternativeAt s) (alternativeEnd s) isAlternative (numberAt s from 4) (from + 4) k (subst (λ (m : ℕ). k < m) d h)
-        (and-true (between 1 8 (length (fieldAt s from))) (every isAlternative (fieldAt s from)) good .1)
+        (and-true (between 1 mostAlternatives (length (fieldAt s from))) (every isAlternative (fieldAt s from)) good .1)
 
     pub place-more : (k place : ℕ) → place ≡ past (alternativeEnd s) k (from + 4) → (r : ℕ) → r ≡ numberAt s place 3
         → place + 3 + 4 * r ≡ past (alternativeEnd s) (k + 1) (from + 4)
@@ -271,23 +285,26 @@ module _ (s : List ℕ) where
         ap (λ (x : ℕ). place + 3 + 4 * x) g ∙ ap (alternativeEnd s) f ∙ sym (past-snoc (alternativeEnd s) k (from + 4))
         ∙ ap (λ (m : ℕ). past (alternativeEnd s) m (from + 4)) (sym (add-one k))
 
-    pub alternatives-store : (k : ℕ) → k < 8 → (array : List Alternative) → array ≡ map held (firsts k) ++ replicate (8 - k) (held [])
-        → (place : ℕ) → place ≡ past (alternativeEnd s) k (from + 4) → (a : Alternative) → a ≡ held (alternativeAt s place)
-        → set array k a ≡ map held (firsts (k + 1)) ++ replicate (8 - (k + 1)) (held [])
+    pub alternatives-store : (k : ℕ) → k < mostAlternatives → (array : List Alternative) → array ≡ map heldAlternative (firsts k) ++ replicate (mostAlternatives - k) (heldAlternative [])
+        → (place : ℕ) → place ≡ past (alternativeEnd s) k (from + 4) → (a : Alternative) → a ≡ heldAlternative (alternativeAt s place)
+        → set array k a ≡ map heldAlternative (firsts (k + 1)) ++ replicate (mostAlternatives - (k + 1)) (heldAlternative [])
     alternatives-store k h array f place g a i =
-        let fill : List Alternative = replicate (8 - (k + 1)) (held []) in
-        store 8 k (map held (firsts k)) array (held []) a h (length-map (firsts k) held ∙ length-many (alternativeAt s) (alternativeEnd s) k (from + 4)) f
-        ∙ ap (λ (x : Alternative). (map held (firsts k) ++ (x ∷ [])) ++ fill) (i ∙ ap (λ (p : ℕ). held (alternativeAt s p)) g)
-        ∙ ap (λ (l : List Alternative). l ++ fill) (sym (map-snoc held (firsts k) (alternativeAt s (past (alternativeEnd s) k (from + 4)))))
-        ∙ ap (λ (l : List (List ℕ)). map held l ++ fill) (sym (many-snoc (alternativeAt s) (alternativeEnd s) k (from + 4)))
-        ∙ ap (λ (m : ℕ). map held (firsts m) ++ fill) (sym (add-one k))
+        let fill : List Alternative = replicate (mostAlternatives - (k + 1)) (heldAlternative []) in
+        store mostAlternatives k (map heldAlternative (firsts k)) array (heldAlternative []) a h
+        (length-map (firsts k) heldAlternative ∙ length-many (alternativeAt s) (alternativeEnd s) k (from + 4)) f
+        ∙ ap (λ (x : Alternative). (map heldAlternative (firsts k) ++ (x ∷ [])) ++ fill) (i ∙ ap (λ (p : ℕ). heldAlternative (alternativeAt s p)) g)
+        ∙ ap (λ (l : List Alternative). l ++ fill) (sym (map-snoc heldAlternative (firsts k) (alternativeAt s (past (alternativeEnd s) k (from + 4)))))
+        ∙ ap (λ (l : List (List ℕ)). map heldAlternative l ++ fill) (sym (many-snoc (alternativeAt s) (alternativeEnd s) k (from + 4)))
+        ∙ ap (λ (m : ℕ). map heldAlternative (firsts m) ++ fill) (sym (add-one k))
 
     pub field-held : (most m : ℕ) → m ≤ n → m ≤ most → (m ≡ n) ⊎ (m ≡ most) → (k : ℕ) → k ≡ m → (array : List Alternative)
-        → array ≡ map held (firsts k) ++ replicate (8 - k) (held []) → _≡_ {A = Field} (record { alternatives = array; count = m }) (heldField (take most (fieldOf (ruleAt s at) which)))
+        → array ≡ map heldAlternative (firsts k) ++ replicate (mostAlternatives - k) (heldAlternative []) → _≡_ {A = Field} (record { alternatives = array; count = m })
+        (heldField (take most (fieldOf (ruleAt s at) which)))
     field-held most m h i j k f array g =
         let len = length-many (alternativeAt s) (alternativeEnd s) m (from + 4) in
         (λ x. record {
-          alternatives = (g ∙ ap (λ (y : ℕ). map held (firsts y) ++ replicate (8 - y) (held [])) f ∙ ap (λ (y : ℕ). map held (firsts m) ++ replicate (8 - y) (held [])) (sym len)) x;
+          alternatives = (g ∙ ap (λ (y : ℕ). map heldAlternative (firsts y) ++ replicate (mostAlternatives - y) (heldAlternative [])) f ∙ ap
+              (λ (y : ℕ). map heldAlternative (firsts m) ++ replicate (mostAlternatives - y) (heldAlternative [])) (sym len)) x;
           count = sym len x;
         })
         ∙ ap heldField (sym (take-least (alternativeAt s) (alternativeEnd s) most n m (from + 4) h i j)

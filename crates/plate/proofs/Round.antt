@@ -19,9 +19,12 @@ use Rattle.chars.specs.Utf8.{scalar, isText}
 use Rattle.chars.proofs.Exact.{scalar-most}
 use Rattle.chars.specs.Digits.{digit, isAlternative}
 use Rattle.plate.specs.Bits.{bitsOf, unpack, pack, numberAt}
-use Rattle.plate.specs.Plate.{Folding, Rule, Plate, Edition, edition1, mostFoldings, goodField, nonzeroByte, goodPattern, goodRule, nonzeroScalar, goodFolding, rising, ordered, goodFoldings, goodRules, goodPlate}
+use Rattle.plate.specs.Plate.{Folding, Rule, Plate, Edition, edition1, mostFoldings, goodField, nonzeroByte, goodPattern, goodRule, nonzeroScalar, goodFolding}
+use Rattle.plate.specs.Plate.{rising, ordered, goodFoldings, goodRules, goodPlate}
 use Rattle.plate.specs.Written.{counted, digitBits, alternativeBits, fieldBits, ruleBits, foldingBits, flagBit, headBits, plateBits, plateBytes}
-use Rattle.plate.specs.Read.{many, past, alternativeAt, alternativeEnd, fieldAt, fieldEnd, patternAt, startPlace, vowelPlace, otherPlace, ruleAt, ruleEnd, foldingAt, foldingEnd, ruleCount, foldingCount, flagNumber, reserved, foldingsPlace, rulesPlace, plateAt, plateEnd, closed, acceptedIn, readIn, readPlate}
+use Rattle.plate.specs.Read.{many, past, alternativeAt, alternativeEnd, fieldAt, fieldEnd, patternAt, startPlace, vowelPlace, otherPlace, ruleAt, ruleEnd, foldingAt}
+use Rattle.plate.specs.Read.{foldingEnd, ruleCount, foldingCount, flagNumber, reserved, foldingsPlace, rulesPlace, plateAt, plateEnd, closed, acceptedIn, readIn}
+use Rattle.plate.specs.Read.{readPlate}
 use Rattle.plate.proofs.Packed.{Binary, Bytes, zero-bits, binary-append, binary-bitsOf, binary-cat, unpack-pack, pack-unpack, pack-fill}
 use Rattle.plate.proofs.Place.{number-lt, length-unpack, wrote, reads, At}
 use Rattle.plate.proofs.Listed.{length-many, past-grows, past-add}
@@ -206,7 +209,7 @@ module _ (s : List ℕ) where
 
   -- ---- foldings
 
-  scalar-small : (c : ℕ) → nonzeroScalar c ≡ true → c < 2097152
+  scalar-small : (c : ℕ) → nonzeroScalar c ≡ true → c < 2 ^ 21
   scalar-small c h = omega (arith, scalar-most c (and-true (ltb 0 c) (scalar c) h .1))
 
   folding-reads : Reads goodFolding (foldingAt s) foldingEnd foldingBits
@@ -228,10 +231,19 @@ module _ (s : List ℕ) where
 
   -- ---- the head, whose rule count is w bits wide
 
+  -- what is read of a head, and where the rest stands
+  record HeadIs (w e n m f : ℕ) (rest : List ℕ) : Type 0 where
+    edition : numberAt s 0 8 ≡ e
+    rules : ruleCount w s ≡ n
+    foldings : foldingCount w s ≡ m
+    flag : flagNumber w s ≡ f
+    empty : reserved w s ≡ 0
+    behind : At s foldingsPlace rest
+
   module _ (w : ℕ) (k : w ≤ 15) where
     head-reads : (e n m f : ℕ) (rest : List ℕ) → e < 256 → n < 2 ^ w → m < 256 → f < 2
         → At s 0 (bitsOf 8 e ++ (bitsOf w n ++ (bitsOf 8 m ++ (bitsOf 1 f ++ (bitsOf (15 - w) 0 ++ rest)))))
-        → (numberAt s 0 8 ≡ e) × (ruleCount w s ≡ n) × (foldingCount w s ≡ m) × (flagNumber w s ≡ f) × (reserved w s ≡ 0) × At s foldingsPlace rest
+        → HeadIs w e n m f rest
     head-reads e n m f rest k1 k2 k3 k4 x =
         let l4 = bitsOf (15 - w) 0 ++ rest in
         let l3 = bitsOf 1 f ++ l4 in
@@ -240,7 +252,14 @@ module _ (s : List ℕ) where
         let r3 = reads s 8 m (8 + w) l3 k3 (r2 .1) in
         let r4 = reads s 1 f (16 + w) l4 k4 (moved (8 + w + 8) (16 + w) l3 (omega arith) (r3 .1)) in
         let r5 = reads s (15 - w) 0 (17 + w) rest (pow-pos (15 - w)) (moved (16 + w + 1) (17 + w) l4 (omega arith) (r4 .1)) in
-        (r1 .0, r2 .0, r3 .0, r4 .0, r5 .0, moved (17 + w + (15 - w)) 32 rest (omega arith) (r5 .1))
+        record {
+          edition = r1 .0;
+          rules = r2 .0;
+          foldings = r3 .0;
+          flag = r4 .0;
+          empty = r5 .0;
+          behind = moved (17 + w + (15 - w)) foldingsPlace rest (omega arith) (r5 .1);
+        }
 
     head-wrote : 32 ≤ L
         → B ≡ bitsOf 8 (numberAt s 0 8) ++ (bitsOf w (ruleCount w s) ++ (bitsOf 8 (foldingCount w s) ++ (bitsOf 1 (flagNumber w s) ++ (bitsOf (15 - w) (reserved w s) ++ drop 32 B))))
@@ -366,16 +385,16 @@ module _ (e : Edition) (number : e .number < 256) (width : e .width ≤ 15) (mos
         (lt-of-le-of-lt (few-rules e p h) most) few (flag-small (p .flag))
         (x0 .0, x0 .1 ∙ join-five (l1 e p) (l2 e p) (l3 e p) (l4 e p) (l5 e p) rest) in
         let fr = many-reads s (foldingAt s) foldingEnd foldingBits goodFolding (folding-reads s) (p .foldings) foldingsPlace (rs e p ++ zeros) (all-foldings e p h)
-        (split s foldingsPlace (fs e p) (rs e p) zeros (hr .5)) in
-        let x1 = moved s _ (rulesPlace w s) (rs e p ++ zeros) (past-add 42 (length (p .foldings)) 32 ∙ ap (λ (n : ℕ). 32 + 42 * n) (sym (hr .2))) (fr .1) in
+        (split s foldingsPlace (fs e p) (rs e p) zeros (hr .behind)) in
+        let x1 = moved s _ (rulesPlace w s) (rs e p ++ zeros) (past-add 42 (length (p .foldings)) 32 ∙ ap (λ (n : ℕ). 32 + 42 * n) (sym (hr .foldings))) (fr .1) in
         let rr = many-reads s (ruleAt s) (ruleEnd s) ruleBits goodRule (rule-reads s) (p .rules) (rulesPlace w s) zeros (all-rules e p h) x1 in
         let same : plateAt w s ≡ p = λ i. record {
-          flag = (ap (λ (n : ℕ). eqb n 1) (hr .3) ∙ flag-back (p .flag)) i;
-          foldings = (ap (λ (n : ℕ). many (foldingAt s) foldingEnd n foldingsPlace) (hr .2) ∙ fr .0) i;
-          rules = (ap (λ (n : ℕ). many (ruleAt s) (ruleEnd s) n (rulesPlace w s)) (hr .1) ∙ rr .0) i;
+          flag = (ap (λ (n : ℕ). eqb n 1) (hr .flag) ∙ flag-back (p .flag)) i;
+          foldings = (ap (λ (n : ℕ). many (foldingAt s) foldingEnd n foldingsPlace) (hr .foldings) ∙ fr .0) i;
+          rules = (ap (λ (n : ℕ). many (ruleAt s) (ruleEnd s) n (rulesPlace w s)) (hr .rules) ∙ rr .0) i;
         } in
-        let x2 : At s (plateEnd w s) zeros = subst (λ (n : ℕ). At s (past (ruleEnd s) n (rulesPlace w s)) zeros) (sym (hr .1)) (rr .1) in (
-          both-true (eq-eqb _ _ (hr .0)) (both-true (eq-eqb _ _ (hr .4)) (both-true (ap (goodPlate e) same ∙ h) (closed-reads s (plateEnd w s) k small x2))),
+        let x2 : At s (plateEnd w s) zeros = subst (λ (n : ℕ). At s (past (ruleEnd s) n (rulesPlace w s)) zeros) (sym (hr .rules)) (rr .1) in (
+          both-true (eq-eqb _ _ (hr .edition)) (both-true (eq-eqb _ _ (hr .empty)) (both-true (ap (goodPlate e) same ∙ h) (closed-reads s (plateEnd w s) k small x2))),
           same,
         )
 
@@ -436,16 +455,16 @@ module _ (e : Edition) (number : e .number < 256) (width : e .width ≤ 15) (mos
   pub plate-exact : (s : List ℕ) (p : Plate) → Bytes s → readIn e s ≡ some p → (s ≡ plateBytes e p) × (goodPlate e p ≡ true)
   plate-exact s p b h = go (acceptedIn e s) refl h
     where
-      held : Option Plate → Plate
-      held (some q) = q
-      held none = plateAt w s
+      said : Option Plate → Plate
+      said (some q) = q
+      said none = plateAt w s
 
       is-some : Option Plate → Bool
       is-some (some q) = true
       is-some none = false
 
       go : (t : Bool) → acceptedIn e s ≡ t → cond t (some (plateAt w s)) none ≡ some p → (s ≡ plateBytes e p) × (goodPlate e p ≡ true)
-      go true a r = (accepted-exact s b a ∙ ap (plateBytes e) (ap held r), ap (goodPlate e) (sym (ap held r)) ∙ says-good e s a)
+      go true a r = (accepted-exact s b a ∙ ap (plateBytes e) (ap said r), ap (goodPlate e) (sym (ap said r)) ∙ says-good e s a)
       go false a r = absurd (false≢true (ap is-some r))
 
 -- ---- edition 1

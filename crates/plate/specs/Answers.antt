@@ -107,14 +107,14 @@ abbrev pub ruleSeen : List ℕ → ℕ → ℕ → ℕ → Seen
 ruleSeen s at c n = let r = ruleAt s at in seenIf (ruleFits r c n) (firstCode r) (length (r .pattern)) (ruleEnd s at)
 
 -- rules in order, behind one of first code point c and n bytes
-abbrev pub follow : ℕ → ℕ → List Rule → Bool
-follow c n [] = true
-follow c n (r ∷ more) = inOrder c n (firstCode r) (length (r .pattern)) && ordered (r ∷ more)
+abbrev pub orderedBehind : ℕ → ℕ → List Rule → Bool
+orderedBehind c n [] = true
+orderedBehind c n (r ∷ more) = inOrder c n (firstCode r) (length (r .pattern)) && ordered (r ∷ more)
 
 -- the rules left
 abbrev pub rulesStep : List ℕ → ℕ → ℕ → ℕ → ℕ → Step
 rulesStep s at left c n =
-    let rs = many (ruleAt s) (ruleEnd s) left at in stepIf (every goodRule rs && follow c n rs) (past (ruleEnd s) left at)
+    let rs = many (ruleAt s) (ruleEnd s) left at in stepIf (every goodRule rs && orderedBehind c n rs) (past (ruleEnd s) left at)
 
 -- ---- foldings
 

@@ -1,5 +1,6 @@
 pub mod Bits
 pub mod Plate
+pub mod Most
 pub mod Written
 pub mod Read
 pub mod Worked

@@ -4,7 +4,7 @@ use mathlib.Core.Path.{_≡_}
 use mathlib.Core.Bool.{Bool, true, false, not}
 use mathlib.Core.List.{List}
 use lib.Dec.{eqb, ltb, leb}
-use lib.ListN.{length, take, drop, getD}
+use lib.ListN.{length, take, drop, getD, replicate}
 use lib.Seq.{slice}
 use Rattle.laws.specs.Lists.{every}
 use Rattle.plate.specs.Plate.{Rule, firstCode}
@@ -49,10 +49,17 @@ pub record Placed (s : List ℕ) (from n : ℕ) (places : List ℕ) : Type 0 whe
   pub room : n ≤ length places
   pub at : (i : ℕ) → i < n → getD places i 0 ≡ past (ruleEnd s) i from
 
--- entry c is c's group, as 65536 times its first rule and the rule behind its last
+-- The groups of the first characters are noted, those that a name may hold, each in one number: its first rule times `half`, and the rule behind its last.
+abbrev pub notedCharacters : ℕ
+notedCharacters = 384
+
+abbrev pub half : ℕ
+half = 65536
+
+-- entry c is c's group
 pub record Grouped (s : List ℕ) (from n : ℕ) (groups : List ℕ) : Type 0 where
-  pub size : length groups ≡ 384
-  pub of : (c : ℕ) → c < 384 → GroupIs (many (ruleAt s) (ruleEnd s) n from) c (getD groups c 0 / 65536) (getD groups c 0 % 65536)
+  pub size : length groups ≡ notedCharacters
+  pub of : (c : ℕ) → c < notedCharacters → GroupIs (many (ruleAt s) (ruleEnd s) n from) c (getD groups c 0 / half) (getD groups c 0 % half)
 
 abbrev pub NotedFrom : List ℕ → ℕ → ℕ → List ℕ → List ℕ → Type 0
 NotedFrom s from n places groups = Placed s from n places × Grouped s from n groups
@@ -60,6 +67,11 @@ NotedFrom s from n places groups = Placed s from n places × Grouped s from n gr
 -- of all rules of a plate, whose rule count is w bits wide
 abbrev pub Noted : ℕ → List ℕ → List ℕ → List ℕ → Type 0
 Noted w s places groups = NotedFrom s (rulesPlace w s) (ruleCount w s) places groups
+
+-- what is lent to note n rules in: room for their places, and groups of which none is noted
+pub record Unnoted (n : ℕ) (places groups : List ℕ) : Type 0 where
+  pub room : n ≤ length places
+  pub clear : groups ≡ replicate notedCharacters 0
 
 -- where rules are accepted, they are noted
 abbrev pub NotedTo : Step → List ℕ → ℕ → ℕ → List ℕ → List ℕ → Type 0

@@ -33,6 +33,17 @@ pub record Edition : Type 0 where
 abbrev pub edition1 : Edition
 edition1 = record { number = 1; width = 10; most = 512 }
 
+-- ---- the table's limits: "pattern 1 to 16 bytes, 1 to 8 alternatives, 0 to 6 digits, [..] 128 foldings"
+
+abbrev pub mostBytes : ℕ
+mostBytes = 16
+
+abbrev pub mostAlternatives : ℕ
+mostAlternatives = 8
+
+abbrev pub mostDigits : ℕ
+mostDigits = 6
+
 abbrev pub mostFoldings : ℕ
 mostFoldings = 128
 
@@ -41,14 +52,14 @@ mostFoldings = 128
 -- rules never fall in first code point nor, within one, grow in byte length, [..]"
 
 abbrev pub goodField : List (List ℕ) → Bool
-goodField f = between 1 8 (length f) && every isAlternative f
+goodField f = between 1 mostAlternatives (length f) && every isAlternative f
 
 -- a byte, and not zero
 abbrev pub nonzeroByte : ℕ → Bool
 nonzeroByte b = between 1 255 b
 
 abbrev pub goodPattern : List ℕ → Bool
-goodPattern p = between 1 16 (length p) && (every nonzeroByte p && isText p)
+goodPattern p = between 1 mostBytes (length p) && (every nonzeroByte p && isText p)
 
 abbrev pub goodRule : Rule → Bool
 goodRule r = goodPattern (r .pattern) && (goodField (r .start) && (goodField (r .vowel) && goodField (r .other)))

@@ -6,7 +6,8 @@ use mathlib.Core.Bool.{true}
 use mathlib.Core.List.{List, [], _∷_, _++_, map}
 use lib.ListN.{length, drop, replicate}
 use Rattle.chars.specs.Utf8.{charOf, charsOf, codeOf, widthOf, isText}
-use Rattle.plate.specs.Plate.{Rule, goodRule}
+use Rattle.plate.specs.Plate.{Rule, mostAlternatives, mostDigits, goodRule}
+use Rattle.plate.specs.Most.{plateMost}
 use Rattle.plate.specs.Read.{patternAt, startPlace, vowelPlace, otherPlace, ruleAt, ruleEnd}
 use Rattle.plate.specs.declared.Letter.{Letter}
 use Rattle.plate.specs.declared.Alternative.{Alternative}
@@ -14,9 +15,9 @@ use Rattle.plate.specs.declared.Field.{Field}
 
 -- ---- where rules stand
 
--- A rule of an accepted plate stands at a place. (The bound serves sums of places: 1,500 rules of 1,660 bits, which no counts exceed, stay below it.)
+-- A rule of an accepted plate stands at a place.
 pub record Here (s : List ℕ) (at : ℕ) : Type 0 where
-  pub near : at ≤ 3000000
+  pub near : at ≤ plateMost
   pub good : goodRule (ruleAt s at) ≡ true
 
 -- n rules stand from a place on
@@ -60,9 +61,9 @@ fieldPlace s at (suc zero) = vowelPlace s at
 fieldPlace s at (suc (suc k)) = otherPlace s at
 
 -- an alternative as it is held: the fill is the digit zero
-abbrev pub held : List ℕ → Alternative
-held ds = record { digits = ds ++ replicate (6 - length ds) 48; count = length ds }
+abbrev pub heldAlternative : List ℕ → Alternative
+heldAlternative ds = record { digits = ds ++ replicate (mostDigits - length ds) 48; count = length ds }
 
 -- a field as it is held: the fill is the empty alternative
 abbrev pub heldField : List (List ℕ) → Field
-heldField f = record { alternatives = map held f ++ replicate (8 - length f) (held []); count = length f }
+heldField f = record { alternatives = map heldAlternative f ++ replicate (mostAlternatives - length f) (heldAlternative []); count = length f }

@@ -1,5 +1,4 @@
 // Which bytes are a plate, in one pass from the front: the place behind each part is where the next begins.
-// The bounds on places are for 1,500 rules: by the widths of its counts a rule that is accepted has at most 913 bits.
 ghost use mathlib.Core.Path.{_≡_};
 ghost use mathlib.Core.Bool.{true, _&&_};
 ghost use mathlib.Core.List.{List};
@@ -7,18 +6,30 @@ ghost use Prim.Native.Nat.{ℕ, _+_, _*_, _≤_, _<_};
 ghost use lib.Dec.{ltb};
 ghost use lib.ListN.{length, replicate};
 ghost use Rattle.plate.specs.Bits.{numberAt};
-ghost use Rattle.plate.specs.Plate.{nonzeroScalar, goodFolding, edition1};
-ghost use Rattle.plate.specs.Read.{foldingAt, closed, acceptedIn};
+ghost use Rattle.plate.specs.Plate.{nonzeroScalar, goodFolding, mostFoldings, edition1};
+ghost use Rattle.plate.specs.Most.{mostRules, alternativeMost, fieldMost, ruleMost, foldingsMost, plateMost, farthest};
+ghost use Rattle.plate.specs.Read.{foldingAt, foldingsPlace, closed, acceptedIn};
 ghost use Rattle.plate.specs.Window.{Holds};
 ghost use Rattle.plate.specs.Answers.{bytesAt, lastDigits, upTo, alternativeStep, fieldStep, fieldsStep, firstOf, inOrder, ruleSeen, seenTo, rulesStep, foldingsGood, edition};
-ghost use Rattle.plate.specs.Noted.{NotedTo, NotedIf};
+ghost use Rattle.plate.specs.Noted.{notedCharacters, Unnoted, NotedTo, NotedIf};
 ghost use Rattle.plate.specs.declared.Step.the-variants.{To};
+use super::CHARACTER_BITS;
+use super::COUNT_BITS;
+use super::EDITION;
+use super::FOLDING_BITS;
+use super::FOLDINGS;
 use super::First;
 use super::Front;
+use super::MOST_ALTERNATIVES;
+use super::MOST_BYTES;
+use super::MOST_DIGITS;
+use super::MOST_FOLDINGS;
+use super::MOST_RULES;
+use super::NOTED;
 use super::Seen;
 use super::Step;
 use super::bits::bits;
-use super::bits::count;
+use super::bits::size;
 use super::note::group_start;
 use super::note::note_group;
 use super::pattern;
@@ -45,11 +56,11 @@ fn accept_digits(number: u64, n: usize) -> bool
 
 // The alternative at a place, of whose bits 27 stand in front of a window.
 fn alternative_in(w: u64, at: usize) -> Step
-    requires { ⌜ at ≤ 4000000 ⌝ }
-    ensures { λ r. ⌜ upTo r (at + 27) × ((s : List ℕ) → Holds s at 27 w → r ≡ alternativeStep s at) ⌝ }
+    requires { ⌜ at ≤ farthest 3 ⌝ }
+    ensures { λ r. ⌜ upTo r (at + alternativeMost) × ((s : List ℕ) → Holds s at alternativeMost w → r ≡ alternativeStep s at) ⌝ }
 {
     let n = part(w, 0, 3) as usize;
-    if 6 < n {
+    if MOST_DIGITS < n {
         return Step::Nowhere;
     }
     if accept_digits(part(w, 3, 4 * n), n) {
@@ -60,8 +71,8 @@ fn alternative_in(w: u64, at: usize) -> Step
 
 // An alternative, all of it in one window.
 fn accept_alternative(plate: &[u8], at: usize) -> Step
-    requires { ⌜ at ≤ 4000000 ⌝ }
-    ensures { λ r. ⌜ (r ≡ alternativeStep (now (plate .entry)) at) × upTo r (at + 27) ⌝ }
+    requires { ⌜ at ≤ farthest 3 ⌝ }
+    ensures { λ r. ⌜ (r ≡ alternativeStep (now (plate .entry)) at) × upTo r (at + alternativeMost) ⌝ }
 {
     alternative_in(window(plate, at), at)
 }
@@ -78,8 +89,8 @@ fn is_digit(w: u64) -> bool
 
 // A field: its count, then its alternatives. Most have one, which stands in the same window.
 fn accept_field(plate: &[u8], at: usize) -> Step
-    requires { ⌜ at ≤ 3000000 ⌝ }
-    ensures { λ r. ⌜ (r ≡ fieldStep (now (plate .entry)) at) × upTo r (at + 220) ⌝ }
+    requires { ⌜ at ≤ farthest 2 ⌝ }
+    ensures { λ r. ⌜ (r ≡ fieldStep (now (plate .entry)) at) × upTo r (at + fieldMost) ⌝ }
 {
     let w = window(plate, at);
     if is_digit(w) {
@@ -92,7 +103,7 @@ fn accept_field(plate: &[u8], at: usize) -> Step
     if n < 1 {
         return Step::Nowhere;
     }
-    if 8 < n {
+    if MOST_ALTERNATIVES < n {
         return Step::Nowhere;
     }
     let mut place = at + 4;
@@ -109,8 +120,8 @@ fn accept_field(plate: &[u8], at: usize) -> Step
 
 // The three fields of a rule.
 fn accept_fields(plate: &[u8], at: usize) -> Step
-    requires { ⌜ at ≤ 2000000 ⌝ }
-    ensures { λ r. ⌜ (r ≡ fieldsStep (now (plate .entry)) at) × upTo r (at + 660) ⌝ }
+    requires { ⌜ at ≤ farthest 1 ⌝ }
+    ensures { λ r. ⌜ (r ≡ fieldsStep (now (plate .entry)) at) × upTo r (at + 3 * fieldMost) ⌝ }
 {
     let Step::To(vowel) = accept_field(plate, at) else {
         return Step::Nowhere;
@@ -126,13 +137,13 @@ fn accept_fields(plate: &[u8], at: usize) -> Step
 
 // The n bytes of a pattern, the first character first.
 fn accept_pattern(plate: &[u8], at: usize, n: usize) -> First
-    requires { ⌜ at ≤ 2000000 ⌝ }
+    requires { ⌜ at ≤ farthest 1 ⌝ }
     ensures { λ r. ⌜ r ≡ firstOf (bytesAt (now (plate .entry)) n at) ⌝ }
 {
     if n < 1 {
         return First::None;
     }
-    if 16 < n {
+    if MOST_BYTES < n {
         return First::None;
     }
     let Front::Is(code, width) = pattern::front(plate, at, n) else {
@@ -159,10 +170,10 @@ fn in_order(c: u32, n: usize, c2: u32, n2: usize) -> bool
 
 // The rule at a place, behind one of first code point c and n bytes.
 fn accept_rule(plate: &[u8], at: usize, c: u32, n: usize) -> Seen
-    requires { ⌜ at ≤ 1500000 ⌝ }
-    ensures { λ r. ⌜ (r ≡ ruleSeen (now (plate .entry)) at c n) × seenTo r (at + 913) ⌝ }
+    requires { ⌜ at ≤ plateMost ⌝ }
+    ensures { λ r. ⌜ (r ≡ ruleSeen (now (plate .entry)) at c n) × seenTo r (at + ruleMost) ⌝ }
 {
-    let length = count(plate, at, 5);
+    let length = size(plate, at, 5);
     let First::Code(code) = accept_pattern(plate, at + 5, length) else {
         return Seen::Wrong;
     };
@@ -177,8 +188,8 @@ fn accept_rule(plate: &[u8], at: usize, c: u32, n: usize) -> Seen
 
 // The n rules from a place on; each is noted as it is accepted. The present group is noted anew at every rule, so that none is left over at the end.
 fn accept_rules(plate: &[u8], from: usize, n: usize, places: &mut [u32], groups: &mut [u32]) -> Step
-    requires { ⌜ (from ≤ 20000) × (n ≤ 1500) × (n ≤ length (now places)) × (now groups ≡ replicate 384 0) ⌝ }
-    ensures { λ r. ⌜ (r ≡ rulesStep (now (plate .entry)) from n 0 0) × upTo r (from + 913 * n) × NotedTo r (now (plate .entry)) from n (now (places .exit)) (now (groups .exit)) ⌝ }
+    requires { ⌜ (from ≤ foldingsMost) × (n ≤ mostRules) × Unnoted n (now places) (now groups) ⌝ }
+    ensures { λ r. ⌜ (r ≡ rulesStep (now (plate .entry)) from n 0 0) × upTo r (from + ruleMost * n) × NotedTo r (now (plate .entry)) from n (now (places .exit)) (now (groups .exit)) ⌝ }
 {
     let mut at = from;
     let mut i: usize = 0;
@@ -212,7 +223,7 @@ fn nonzero_scalar(c: u32) -> bool
 
 // The folding at a place, behind one of a key.
 fn accept_folding(plate: &[u8], at: usize, key: u32) -> bool
-    requires { ⌜ at ≤ 20000 ⌝ }
+    requires { ⌜ at ≤ foldingsMost ⌝ }
     ensures { λ r. ⌜ r ≡ goodFolding (foldingAt (now (plate .entry)) at) && ltb key (numberAt (now (plate .entry)) at 21) ⌝ }
 {
     let folding = reader::folding_at(plate, at);
@@ -226,16 +237,16 @@ fn accept_folding(plate: &[u8], at: usize, key: u32) -> bool
 
 // The n foldings.
 fn accept_foldings(plate: &[u8], n: usize) -> bool
-    requires { ⌜ n ≤ 128 ⌝ }
-    ensures { λ r. ⌜ r ≡ foldingsGood (now (plate .entry)) 32 n 0 ⌝ }
+    requires { ⌜ n ≤ mostFoldings ⌝ }
+    ensures { λ r. ⌜ r ≡ foldingsGood (now (plate .entry)) foldingsPlace n 0 ⌝ }
 {
-    let mut at: usize = 32;
+    let mut at: usize = FOLDINGS;
     let mut left = n;
     let mut key: u32 = 0;
     while 0 < left {
         if accept_folding(plate, at, key) {
-            key = bits(plate, at, 21);
-            at += 42;
+            key = bits(plate, at, CHARACTER_BITS);
+            at += FOLDING_BITS;
             left -= 1;
             continue;
         }
@@ -246,7 +257,7 @@ fn accept_foldings(plate: &[u8], n: usize) -> bool
 
 // The bits end in the last byte, and zeros fill it.
 fn is_closed(plate: &[u8], end: usize) -> bool
-    requires { ⌜ end ≤ 2000000 ⌝ }
+    requires { ⌜ end ≤ plateMost ⌝ }
     ensures { λ r. ⌜ r ≡ closed (now (plate .entry)) end ⌝ }
 {
     if (end + 7) / 8 == plate.len() {
@@ -264,7 +275,7 @@ fn accept_in(
     places: &mut [u32],
     groups: &mut [u32],
 ) -> bool
-    requires { ⌜ (width ≤ 15) × (most ≤ 1500) × (most ≤ length (now places)) × (now groups ≡ replicate 384 0) ⌝ }
+    requires { ⌜ (width ≤ 15) × (most ≤ mostRules) × Unnoted most (now places) (now groups) ⌝ }
     ensures { λ r. ⌜ (r ≡ acceptedIn (edition number width most) (now (plate .entry))) × NotedIf r width (now (plate .entry)) (now (places .exit)) (now (groups .exit)) ⌝ }
 {
     if bits(plate, 0, 8) != number {
@@ -273,16 +284,17 @@ fn accept_in(
     if bits(plate, 17 + width, 15 - width) != 0 {
         return false;
     }
-    let n = count(plate, 8, width);
+    let n = size(plate, 8, width);
     if most < n {
         return false;
     }
-    let m = count(plate, 8 + width, 8);
-    if 128 < m {
+    let m = size(plate, 8 + width, 8);
+    if MOST_FOLDINGS < m {
         return false;
     }
     if accept_foldings(plate, m) {
-        let Step::To(end) = accept_rules(plate, 32 + 42 * m, n, places, groups) else {
+        let Step::To(end) = accept_rules(plate, FOLDINGS + FOLDING_BITS * m, n, places, groups)
+        else {
             return false;
         };
         return is_closed(plate, end);
@@ -292,17 +304,17 @@ fn accept_in(
 
 // The bytes are a plate; if so, its rules are noted.
 pub fn accept_noting(plate: &[u8], places: &mut [u32], groups: &mut [u32]) -> bool
-    requires { ⌜ (512 ≤ length (now places)) × (now groups ≡ replicate 384 0) ⌝ }
+    requires { ⌜ (edition1 .most ≤ length (now places)) × (now groups ≡ replicate notedCharacters 0) ⌝ }
     ensures { λ r. ⌜ (r ≡ acceptedIn edition1 (now (plate .entry))) × NotedIf r (edition1 .width) (now (plate .entry)) (now (places .exit)) (now (groups .exit)) ⌝ }
 {
-    accept_in(plate, 1, 10, 512, places, groups)
+    accept_in(plate, EDITION, COUNT_BITS, MOST_RULES, places, groups)
 }
 
 // The bytes are a plate.
 pub fn accept(plate: &[u8]) -> bool
     ensures { λ r. ⌜ r ≡ acceptedIn edition1 (now (plate .entry)) ⌝ }
 {
-    let mut places = [0u32; 512];
-    let mut groups = [0u32; 384];
+    let mut places = [0u32; MOST_RULES];
+    let mut groups = [0u32; NOTED];
     accept_noting(plate, &mut places, &mut groups)
 }

@@ -7,6 +7,32 @@ pub mod note; // note.rt: what is noted of the rules of a plate while it is acce
 pub mod accept; // accept.rt: which bytes are a plate
 pub mod read; // read.rt: what an accepted plate says, part by part
 
+// An edition: its number, the width of its rule count in bits, and the most rules.
+pub const EDITION: u32 = 1;
+
+pub const COUNT_BITS: usize = 10;
+
+pub const MOST_RULES: usize = 512;
+
+// "pattern 1 to 16 bytes, 1 to 8 alternatives, 0 to 6 digits, [..] 128 foldings"
+pub const MOST_BYTES: usize = 16;
+
+pub const MOST_ALTERNATIVES: usize = 8;
+
+pub const MOST_DIGITS: usize = 6;
+
+pub const MOST_FOLDINGS: usize = 128;
+
+// "21 bits key, 21 bits target": a folding. The foldings begin behind the head, whatever the edition.
+pub const CHARACTER_BITS: usize = 21;
+
+pub const FOLDING_BITS: usize = 2 * CHARACTER_BITS;
+
+pub const FOLDINGS: usize = 32;
+
+// The first characters, those that a name may hold: their groups are noted.
+pub const NOTED: usize = 384;
+
 // The place behind what was accepted, or nowhere.
 pub enum Step {
     To(usize),
@@ -45,12 +71,12 @@ pub struct Letter {
 
 // An alternative: its ASCII digits, and zeros (as ASCII) behind them.
 pub struct Alternative {
-    pub digits: [u8; 6],
+    pub digits: [u8; MOST_DIGITS],
     pub count: u8,
 }
 
 // The alternatives of a field, empty ones behind them.
 pub struct Field {
-    pub alternatives: [Alternative; 8],
+    pub alternatives: [Alternative; MOST_ALTERNATIVES],
     pub count: usize,
 }

@@ -1,4 +1,4 @@
-// What is noted of a plate's rules while it is accepted: where each stands, and which rules are a character's group. Groups are noted for the first 384
+// What is noted of a plate's rules while it is accepted: where each stands, and which rules are a character's group. Groups are noted for the first
 // characters, those that a name may hold; any other (a folding's target may be any) has its group found by halves, since rules stand by first character.
 ghost use mathlib.Core.Path.{_≡_};
 ghost use mathlib.Core.Bool.{true};
@@ -6,10 +6,15 @@ ghost use mathlib.Core.Logic.{_⊎_};
 ghost use Prim.Native.Nat.{_+_, _*_, _≤_};
 ghost use lib.ListN.{length, set};
 ghost use Rattle.plate.specs.Plate.{edition1};
+ghost use Rattle.plate.specs.Most.{mostRules};
 ghost use Rattle.plate.specs.Read.{plateAt, acceptedIn, ruleCount, rulesPlace};
-ghost use Rattle.plate.specs.Noted.{GroupIs, Parted, Placed, Noted};
+ghost use Rattle.plate.specs.Noted.{notedCharacters, half, GroupIs, Parted, Placed, Noted};
 use super::Group;
+use super::NOTED;
 use super::read;
+
+// A group is noted in one number: its first rule times this, and the rule behind its last.
+const HALF: usize = 65536;
 
 // Where the group begins that rule i, of first code point c, belongs to: with the rule before, whose group began at `begun`, or here.
 pub(crate) fn group_start(code: u32, begun: usize, c: u32, i: usize) -> usize
@@ -18,15 +23,15 @@ pub(crate) fn group_start(code: u32, begun: usize, c: u32, i: usize) -> usize
     if c == code { begun } else { i }
 }
 
-// A character's group, from its first rule to its last, is noted, if the character is one of the first 384.
+// A character's group, from its first rule to its last, is noted, if the character is one of the first.
 pub(crate) fn note_group(groups: &mut [u32], c: u32, first: usize, last: usize)
-    requires { ⌜ (length (now groups) ≡ 384) × (first ≤ 1500) × (last ≤ 1500) ⌝ }
-    ensures { λ r. ⌜ now (groups .exit) ≡ set (now (groups .entry)) c (first * 65536 + (last + 1)) ⌝ }
+    requires { ⌜ (length (now groups) ≡ notedCharacters) × (first ≤ mostRules) × (last ≤ mostRules) ⌝ }
+    ensures { λ r. ⌜ now (groups .exit) ≡ set (now (groups .entry)) c (first * half + (last + 1)) ⌝ }
 {
-    if 384 <= c {
+    if NOTED as u32 <= c {
         return;
     }
-    groups[c as usize] = (first * 65536 + (last + 1)) as u32;
+    groups[c as usize] = (first * HALF + (last + 1)) as u32;
 }
 
 // How many of n rules begin with a character below c: those in front, since rules stand by first character.
@@ -55,11 +60,11 @@ pub fn group_of(plate: &[u8], places: &[u32], groups: &[u32], c: u32) -> Group
     ensures { λ r. ⌜ GroupIs (plateAt (edition1 .width) (now (plate .entry)) .rules) c (r .first) (r .behind) ⌝ }
 {
     let code = c as usize;
-    if code < 384 {
+    if code < NOTED {
         let group = groups[code] as usize;
         return Group {
-            first: group / 65536,
-            behind: group % 65536,
+            first: group / HALF,
+            behind: group % HALF,
         };
     }
     let n = read::rule_count(plate);

@@ -5,22 +5,36 @@ ghost use mathlib.Core.Logic.{_⊎_};
 ghost use Prim.Native.Nat.{_+_, _≤_, _<_};
 ghost use lib.ListN.{length, take};
 ghost use Rattle.chars.specs.Digits.{isAlternative};
-ghost use Rattle.plate.specs.Plate.{edition1};
+ghost use Rattle.plate.specs.Plate.{mostBytes, edition1};
+ghost use Rattle.plate.specs.Most.{ruleMost, farthest};
 ghost use Rattle.plate.specs.Read.{alternativeAt, fieldEnd, patternAt, ruleAt, foldBy, ruleCount, rulesPlace, plateAt, acceptedIn};
-ghost use Rattle.plate.specs.Stands.{Here, Stands, Mark, LetterIs, fieldOf, fieldPlace, held, heldField};
+ghost use Rattle.plate.specs.Stands.{Here, Stands, Mark, LetterIs, fieldOf, fieldPlace, heldAlternative, heldField};
 use super::Alternative;
+use super::CHARACTER_BITS;
+use super::COUNT_BITS;
+use super::FOLDING_BITS;
+use super::FOLDINGS;
 use super::Field;
 use super::Front;
 use super::Letter;
+use super::MOST_ALTERNATIVES;
+use super::MOST_DIGITS;
 use super::bits::bits;
-use super::bits::count;
+use super::bits::size;
 use super::pattern;
 
-// The folding flag. (8 bits edition, 10 bits rule count and 8 bits folding count stand before it.)
+// The places in the head: 8 bits edition, the rule count, 8 bits folding count, the folding flag.
+const RULE_COUNT: usize = 8;
+
+const FOLDING_COUNT: usize = RULE_COUNT + COUNT_BITS;
+
+const FLAG: usize = FOLDING_COUNT + 8;
+
+// The folding flag.
 pub fn flag(plate: &[u8]) -> bool
     ensures { λ r. ⌜ r ≡ plateAt (edition1 .width) (now (plate .entry)) .flag ⌝ }
 {
-    bits(plate, 26, 1) == 1
+    bits(plate, FLAG, 1) == 1
 }
 
 // What a character is folded to. Keys rise, so the first above it ends the search.
@@ -28,17 +42,17 @@ pub fn fold(plate: &[u8], c: u32) -> u32
     requires { ⌜ acceptedIn edition1 (now plate) ≡ true ⌝ }
     ensures { λ r. ⌜ r ≡ foldBy (plateAt (edition1 .width) (now (plate .entry)) .foldings) c ⌝ }
 {
-    let mut at: usize = 32;
-    let mut left = count(plate, 18, 8);
+    let mut at: usize = FOLDINGS;
+    let mut left = size(plate, FOLDING_COUNT, 8);
     while 0 < left {
-        let key = bits(plate, at, 21);
+        let key = bits(plate, at, CHARACTER_BITS);
         if c < key {
             return c;
         }
         if key == c {
-            return bits(plate, at + 21, 21);
+            return bits(plate, at + CHARACTER_BITS, CHARACTER_BITS);
         }
-        at += 42;
+        at += FOLDING_BITS;
         left -= 1;
     }
     c
@@ -49,22 +63,22 @@ pub fn rule_count(plate: &[u8]) -> usize
     requires { ⌜ acceptedIn edition1 (now plate) ≡ true ⌝ }
     ensures { λ r. ⌜ (r ≡ ruleCount (edition1 .width) (now (plate .entry))) × Stands (now (plate .entry)) r (rulesPlace (edition1 .width) (now (plate .entry))) ⌝ }
 {
-    count(plate, 8, 10)
+    size(plate, RULE_COUNT, COUNT_BITS)
 }
 
 // The place behind the field at a place. Its count and the digit count of its first alternative are read at once, and most fields have no other.
 fn field_end(plate: &[u8], at: usize) -> usize
-    requires { ⌜ at ≤ 4000000 ⌝ }
-    ensures { λ r. ⌜ (r ≡ fieldEnd (now (plate .entry)) at) × (r ≤ at + 469) ⌝ }
+    requires { ⌜ at ≤ farthest 1 ⌝ }
+    ensures { λ r. ⌜ r ≡ fieldEnd (now (plate .entry)) at ⌝ }
 {
-    let front = count(plate, at, 7);
+    let front = size(plate, at, 7);
     if front / 8 == 1 {
         return at + 7 + 4 * (front % 8);
     }
     let mut place = at + 4;
     let mut left = front / 8;
     while 0 < left {
-        place = place + 3 + 4 * count(plate, place, 3);
+        place = place + 3 + 4 * size(plate, place, 3);
         left -= 1;
     }
     place
@@ -72,10 +86,10 @@ fn field_end(plate: &[u8], at: usize) -> usize
 
 // The place of field 0, 1 or 2 of the rule at a place.
 fn field_place(plate: &[u8], at: usize, which: usize) -> usize
-    requires { ⌜ (at ≤ 3000000) × (which ≤ 2) ⌝ }
-    ensures { λ r. ⌜ (r ≡ fieldPlace (now (plate .entry)) at which) × (r ≤ at + 1191) ⌝ }
+    requires { ⌜ Here (now plate) at × (which ≤ 2) ⌝ }
+    ensures { λ r. ⌜ (r ≡ fieldPlace (now (plate .entry)) at which) × (r ≤ at + ruleMost) ⌝ }
 {
-    let start = at + 5 + 8 * count(plate, at, 5);
+    let start = at + 5 + 8 * size(plate, at, 5);
     if which == 0 {
         return start;
     }
@@ -89,9 +103,9 @@ fn field_place(plate: &[u8], at: usize, which: usize) -> usize
 // The pattern's length in bytes.
 pub fn pattern_length(plate: &[u8], at: usize) -> usize
     requires { ⌜ Here (now plate) at ⌝ }
-    ensures { λ r. ⌜ (r ≡ length (patternAt (now (plate .entry)) at)) × (0 < r) × (r ≤ 16) ⌝ }
+    ensures { λ r. ⌜ (r ≡ length (patternAt (now (plate .entry)) at)) × (0 < r) × (r ≤ mostBytes) ⌝ }
 {
-    count(plate, at, 5)
+    size(plate, at, 5)
 }
 
 // The character of the pattern that begins at its byte k; ASCII by one read.
@@ -107,7 +121,7 @@ pub fn pattern_char(plate: &[u8], at: usize, k: usize) -> Letter
             width: 1,
         };
     }
-    let left = count(plate, at, 5) - k;
+    let left = size(plate, at, 5) - k;
     let Front::Is(code, width) = pattern::wide_front(plate, place, left) else {
         return Letter { code: 0, width: 1 };
     };
@@ -116,12 +130,12 @@ pub fn pattern_char(plate: &[u8], at: usize, k: usize) -> Letter
 
 // An alternative, all its digits in one read.
 fn alternative_at(plate: &[u8], at: usize) -> Alternative
-    requires { ⌜ (at ≤ 4000000) × (isAlternative (alternativeAt (now plate) at) ≡ true) ⌝ }
-    ensures { λ r. ⌜ r ≡ held (alternativeAt (now (plate .entry)) at) ⌝ }
+    requires { ⌜ (at ≤ farthest 2) × (isAlternative (alternativeAt (now plate) at) ≡ true) ⌝ }
+    ensures { λ r. ⌜ r ≡ heldAlternative (alternativeAt (now (plate .entry)) at) ⌝ }
 {
-    let n = count(plate, at, 3);
+    let n = size(plate, at, 3);
     let number = bits(plate, at + 3, 4 * n);
-    let mut digits = [b'0'; 6];
+    let mut digits = [b'0'; MOST_DIGITS];
     let mut k: usize = 0;
     while k < n {
         digits[k] = (48 + (number >> (4 * n - 4 * k - 4)) % 16) as u8;
@@ -146,17 +160,17 @@ pub fn field_at(plate: &[u8], at: usize, which: usize, most: usize) -> Field
     ensures { λ r. ⌜ r ≡ heldField (take most (fieldOf (ruleAt (now (plate .entry)) at) which)) ⌝ }
 {
     let from = field_place(plate, at, which);
-    let n = least(count(plate, from, 4), most);
+    let n = least(size(plate, from, 4), most);
     let blank = Alternative {
-        digits: [b'0'; 6],
+        digits: [b'0'; MOST_DIGITS],
         count: 0,
     };
-    let mut alternatives = [blank; 8];
+    let mut alternatives = [blank; MOST_ALTERNATIVES];
     let mut place = from + 4;
     let mut k: usize = 0;
     while k < n {
         alternatives[k] = alternative_at(plate, place);
-        place = place + 3 + 4 * count(plate, place, 3);
+        place = place + 3 + 4 * size(plate, place, 3);
         k += 1;
     }
     Field {

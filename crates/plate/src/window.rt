@@ -22,7 +22,7 @@ fn eight_in(plate: &[u8], k: usize) -> u64
 
 // The eight bytes from k on; past the end they are 0.
 fn eight_bytes(plate: &[u8], k: usize) -> u64
-    requires { ⌜ k ≤ 2305843009213693952 ⌝ }
+    requires { ⌜ k ≤ 2 ^ 61 ⌝ }
     ensures { λ r. ⌜ r ≡ eightBytes (now (plate .entry)) k ⌝ }
 {
     if k + 8 <= plate.len() {

@@ -49,9 +49,12 @@ loop-less c = search needs
 
 loop-again : tie.Need-loop-again Inv-loop μ-loop
 loop-again c =
-    let s = c .before .before .before .before .before .before in
-    let l = c .before .before .loop in
-    (omega arith, copied _ _ _ _ _ (s .pre .0 .0) (s .pre .1) (c .before .before .before .before .least .ensures) _ _ (l .inv .1) (c .before .loop-test .taken))
+    let at-test = c .before in
+    let at-loop = at-test .before in
+    let at-least = at-loop .before .before in
+    let s = at-least .before .before in
+    let l = at-loop .loop in
+    (omega arith, copied _ _ _ _ _ (s .pre .0 .0) (s .pre .1) (at-least .least .ensures) _ _ (l .inv .1) (at-test .loop-test .taken))
 
 add-t10 : tie.Need-add-t10 Inv-loop μ-loop
 add-t10 c = search needs
@@ -61,9 +64,12 @@ cast-t9 c = search needs
 
 returns : tie.Need-returns Inv-loop μ-loop
 returns c =
-    let s = c .before .before .before .before .before .before in
-    let l = c .before .before .loop in
-    let r = appended _ _ _ _ _ (s .pre .0 .0) (s .pre .1) (c .before .before .before .before .least .ensures) _ _ (l .inv .1) (l .inv .0) (c .before .loop-test .left) in
+    let at-test = c .before in
+    let at-loop = at-test .before in
+    let at-least = at-loop .before .before in
+    let s = at-least .before .before in
+    let l = at-loop .loop in
+    let r = appended _ _ _ _ _ (s .pre .0 .0) (s .pre .1) (at-least .least .ensures) _ _ (l .inv .1) (l .inv .0) (at-test .loop-test .left) in
     ((r .0, s .pre .1), ap (λ (d : List ℕ). record { digits = d; last = alternativeOf (s .args .t2) }) (r .1))
 
 pub append-spec : {M : Type 1} → statement M

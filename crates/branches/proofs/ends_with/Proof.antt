@@ -41,8 +41,12 @@ element-copy-out-if2-2 c = search needs
 
 returns-2 : tie.Need-returns-2 Inv-loop μ-loop
 returns-2 c =
-    let p = c .before .before .before .before .before .before .pre in
-    end-differs _ _ _ _ (p .0 .1) (p .1) _ (c .before .before .before .before .before .if1 .left) _ (c .before .before .before .before .loop .inv .1) (c .before .before .before .loop-test .taken) (c .if2 .taken)
+    let at-test = c .before .before .before in
+    let at-loop = at-test .before in
+    let at-if1 = at-loop .before in
+    let at-start = at-if1 .before in
+    let p = at-start .pre in
+    end-differs _ _ _ _ (p .0 .1) (p .1) _ (at-if1 .if1 .left) _ (at-loop .loop .inv .1) (at-test .loop-test .taken) (c .if2 .taken)
 
 add-i : tie.Need-add-i Inv-loop μ-loop
 add-i c = search needs
@@ -52,8 +56,12 @@ loop-less c = search needs
 
 loop-again : tie.Need-loop-again Inv-loop μ-loop
 loop-again c =
-    let p = c .before .before .before .before .before .before .pre in
-    (omega arith, end-turn _ _ _ _ (p .0 .1) (p .1) _ (c .before .before .before .before .before .if1 .left) _ (c .before .before .before .before .loop .inv .1) (c .before .before .before .loop-test .taken) (c .if2 .left))
+    let at-test = c .before .before .before in
+    let at-loop = at-test .before in
+    let at-if1 = at-loop .before in
+    let at-start = at-if1 .before in
+    let p = at-start .pre in
+    (omega arith, end-turn _ _ _ _ (p .0 .1) (p .1) _ (at-if1 .if1 .left) _ (at-loop .loop .inv .1) (at-test .loop-test .taken) (c .if2 .left))
 
 returns-3 : tie.Need-returns-3 Inv-loop μ-loop
 returns-3 c =

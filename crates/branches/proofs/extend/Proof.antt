@@ -17,8 +17,12 @@ ends-with-requires c κs = search needs
 
 returns-2 : tie.Need-returns-2
 returns-2 c =
-    let p = c .before .before .before .before .before .pre in
-    ((p .0 .0, p .1), met-again _ _ _ (c .before .before .before .before .if1 .left) (told (c .before .before .before .ends-with .ensures) (c .before .before .if2 .taken)))
+    let at-if2 = c .before .before in
+    let at-ends-with = at-if2 .before in
+    let at-if1 = at-ends-with .before in
+    let at-start = at-if1 .before in
+    let p = at-start .pre in
+    ((p .0 .0, p .1), met-again _ _ _ (at-if1 .if1 .left) (told (at-ends-with .ends-with .ensures) (at-if2 .if2 .taken)))
 
 append-requires-2 : tie.Need-append-requires-2
 append-requires-2 c κs = search needs

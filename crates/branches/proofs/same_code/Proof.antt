@@ -1,5 +1,5 @@
 -- `branches::same_code` meets its contract: the six digits that are held are the code (Only.padded). Assumes nothing.
-use mathlib.Core.Path.{sym, ap₂, _∙_}
+use mathlib.Core.Path.{ap₂, _∙_}
 use Rattle.laws.specs.Lists.{same}
 use Rattle.branches.proofs.Only.{whole-digits, code-held}
 use Rattle.branches.proofs.same_code.Statement.{statement}

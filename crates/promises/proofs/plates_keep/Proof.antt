@@ -21,7 +21,8 @@ returns : tie.Need-returns
 returns c =
     let second = c .before .before in
     let first = second .before .before .before .before in
-    let wide = first .before .before .before .before .before in
+    let lending = first .before .before in
+    let wide = lending .before .before .before in
     let lent = wide .before in
     let a = lent .before .args in
     let bytes = bytes-of (a .plate .now) (λ k. omega (arith, lent .shared-slice-known .given k)) in

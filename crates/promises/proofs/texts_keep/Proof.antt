@@ -5,6 +5,15 @@ use Rattle.promises.proofs.Calls.{bytes-of, within, part, texts}
 use Rattle.promises.proofs.texts_keep.Statement.{statement}
 use Rattle.promises.proofs.texts_keep.Tie as tie
 
+-- Where the two texts are lent, from where the first is built.
+abbrev wide-lent : tie.After-dm-build → tie.After-shared-slice-known2
+wide-lent built =
+    let lending = built .before .before .before .before in
+    lending .before .before .before
+
+abbrev text-lent : tie.After-dm-build → tie.After-shared-slice-known
+text-lent built = wide-lent built .before
+
 dm-build-requires : tie.Need-dm-build-requires
 dm-build-requires c κs = search needs
 
@@ -13,11 +22,9 @@ dm-build-requires-2 c κs = search needs
 
 slice-reshare-prefix-dm-list : tie.Need-slice-reshare-prefix-dm-list
 slice-reshare-prefix-dm-list c =
-    let back = c in
-    let built2 = back .before .before in
+    let built2 = c .before .before in
     let built = built2 .before .before .before .before in
-    let entry = built .before .before .before .before in
-    let lent = entry .before .before .before .before in
+    let lent = text-lent built in
     let a = lent .before .args in
     let bytes = bytes-of (a .text .now) (λ k. omega (arith, lent .shared-slice-known .given k)) in
     within (a .text .now) (a .folding) (a .plate .now) bytes (built .dm-build .result) _ (built .dm-build .ensures)
@@ -27,8 +34,7 @@ slice-aggregate-dm-list c =
     let back = c .before in
     let built2 = back .before .before in
     let built = built2 .before .before .before .before in
-    let entry = built .before .before .before .before in
-    let lent = entry .before .before .before .before in
+    let lent = text-lent built in
     let a = lent .before .args in
     let bytes = bytes-of (a .text .now) (λ k. omega (arith, lent .shared-slice-known .given k)) in
     part (a .text .now) (a .folding) (a .plate .now) bytes (built .dm-build .result) _ (built .dm-build .ensures)
@@ -38,11 +44,10 @@ dm-list-requires c κs = search needs
 
 slice-reshare-prefix-dm-list-2 : tie.Need-slice-reshare-prefix-dm-list-2
 slice-reshare-prefix-dm-list-2 c =
-    let back = c in
-    let built2 = back .before .before .before .before .before .before .before in
+    let listed = c .before .before .before in
+    let built2 = listed .before .before .before .before in
     let built = built2 .before .before .before .before in
-    let entry = built .before .before .before .before in
-    let lent = entry .before .before .before in
+    let lent = wide-lent built in
     let a = lent .before .before .args in
     let bytes = bytes-of (a .wide .now) (λ k. omega (arith, lent .shared-slice-known2 .given k)) in
     within (a .wide .now) (a .folding) (a .plate2 .now) bytes (built2 .dm-build2 .result) _ (built2 .dm-build2 .ensures)
@@ -50,10 +55,10 @@ slice-reshare-prefix-dm-list-2 c =
 slice-aggregate-dm-list-2 : tie.Need-slice-aggregate-dm-list-2
 slice-aggregate-dm-list-2 c =
     let back = c .before in
-    let built2 = back .before .before .before .before .before .before .before in
+    let listed = back .before .before .before in
+    let built2 = listed .before .before .before .before in
     let built = built2 .before .before .before .before in
-    let entry = built .before .before .before .before in
-    let lent = entry .before .before .before in
+    let lent = wide-lent built in
     let a = lent .before .before .args in
     let bytes = bytes-of (a .wide .now) (λ k. omega (arith, lent .shared-slice-known2 .given k)) in
     part (a .wide .now) (a .folding) (a .plate2 .now) bytes (built2 .dm-build2 .result) _ (built2 .dm-build2 .ensures)
@@ -76,14 +81,14 @@ same-length-4 c = search needs
 returns : tie.Need-returns
 returns c =
     let listed2 = c .before .before in
-    let listed = listed2 .before .before .before .before .before in
+    let shared = listed2 .before .before in
+    let listed = shared .before .before .before in
     let back2 = listed .before .before .before in
     let built2 = back2 .before .before in
     let back = built2 .before .before in
     let built = back .before .before in
-    let entry = built .before .before .before .before in
-    let wide = entry .before .before .before in
-    let text = wide .before in
+    let wide = wide-lent built in
+    let text = text-lent built in
     let a = text .before .args in
     texts (a .text .now) (a .wide .now) (a .folding) (a .plate .now) (a .plate2 .now)
     (bytes-of (a .text .now) (λ k. omega (arith, text .shared-slice-known .given k))) (bytes-of (a .wide .now) (λ k. omega (arith, wide .shared-slice-known2 .given k)))

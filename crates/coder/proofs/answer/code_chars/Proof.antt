@@ -8,7 +8,7 @@ use Rattle.plate.specs.Read.{plateAt}
 use lib.ListN.{length-map}
 use Rattle.branches.specs.Branches.{code}
 use Rattle.branches.specs.Held.{branchesOf}
-use Rattle.branches.proofs.Holding.{front, items-count}
+use Rattle.branches.proofs.Holding.{first-ok, items-count}
 use Rattle.coder.specs.Walk.{uses}
 use Rattle.coder.specs.Held.{cutAll}
 use Rattle.coder.proofs.Answers.{too-many, within, all-listed}
@@ -46,7 +46,7 @@ write-requires c κs =
     let r = ran .run in
     let bs = r .result .next in
     let k = within us (a .out .now) (room .room-of .result) (room .room-of .ensures .0) (r .result .over) (branchesOf bs) (r .ensures .1) (tested .if1 .left) in
-    let n = items-count (bs .items) (bs .count) (front (bs .items) (bs .count) (r .ensures .0)) in
+    let n = items-count (bs .items) (bs .count) (first-ok (bs .items) (bs .count) (r .ensures .0)) in
     let m = room .room-of .ensures .2 in
     let fewer = listed .once-each .ensures .2 in
     (listed .once-each .ensures .0, omega arith)
@@ -66,7 +66,7 @@ returns-2 c =
     let us = cutAll (a .most) (uses (plateAt (edition1 .width) (a .plate .now) .rules) (a .chars .now)) in
     let r = ran .run in
     let o = listed .once-each in
-    let count = items-count (o .result .items) (o .result .count) (front (o .result .items) (o .result .count) (o .ensures .0)) in
+    let count = items-count (o .result .items) (o .result .count) (first-ok (o .result .items) (o .result .count) (o .ensures .0)) in
     all-listed us (a .out .now) (room .room-of .result) (room .room-of .ensures .0) (r .result .over) (branchesOf (r .result .next)) (r .ensures .1) (tested .if1 .left)
     (map code (branchesOf (o .result))) (o .ensures .1) (o .result .count) _ (length-map (branchesOf (o .result)) code ∙ count) (written .write .ensures)
 

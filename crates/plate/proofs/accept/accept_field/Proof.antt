@@ -4,6 +4,7 @@ use Prim.Native.Nat.{ℕ, _+_, _*_, _≤_}
 use mathlib.Core.Path.{_≡_, refl, sym, _∙_, ap}
 use native.Mathlib.Nat.{add-zero}
 use native.Mathlib.Omega.{arith}
+use Rattle.plate.specs.Most.{fieldMost, alternativeMost}
 use Rattle.plate.specs.Answers.{alternativesStep}
 use Rattle.plate.proofs.Accepted.{alternatives-turn, alternatives-stop, alternatives-end, field-none, field-over, field-is, field-one, up-further}
 use borrow.Author.Needs.{needs}
@@ -13,16 +14,24 @@ use Rattle.plate.proofs.accept.accept_field.Statement.{statement}
 use Rattle.plate.proofs.accept.accept_field.Tie as tie
 
 abbrev Inv-loop : tie.InvT-loop
-Inv-loop plate at w n place₀ left₀ place left = (place + 27 * left ≤ at + 4 + 27 * n) × (alternativesStep plate left place ≡ alternativesStep plate n (at + 4))
+Inv-loop plate at w n place₀ left₀ place left = (place + alternativeMost * left ≤ at + 4 + alternativeMost * n) × (alternativesStep plate left place ≡ alternativesStep plate n (at + 4))
 
 abbrev μ-loop : tie.MeasureT-loop
 μ-loop plate at w n place₀ left₀ place left = left
 
+-- The entry.
+abbrev entry : tie.After-part Inv-loop μ-loop → tie.Start Inv-loop μ-loop
+entry p =
+    let at-window = p .before .before .before in
+    at-window .before .before
+
 -- The number read is the count.
-counted : (c : tie.After-part Inv-loop μ-loop) → c .part .result ≡ numberAt (c .before .before .before .before .before .args .plate .now) (c .before .before .before .before .before .args .at) 4
+counted : (c : tie.After-part Inv-loop μ-loop) → let a = entry c .args in c .part .result ≡ numberAt (a .plate .now) (a .at) 4
 counted c =
-    let a = c .before .before .before .before .before .args in
-    c .part .ensures .1 (a .plate .now) (a .at) 57 (omega arith) (omega arith) (c .before .before .before .window .ensures) ∙ ap (λ (p : ℕ). numberAt (a .plate .now) p 4) (add-zero (a .at))
+    let at-window = c .before .before .before in
+    let a = at-window .before .before .args in
+    c .part .ensures .1 (a .plate .now) (a .at) 57 (omega arith) (omega arith) (at-window .window .ensures)
+    ∙ ap (λ (p : ℕ). numberAt (a .plate .now) p 4) (add-zero (a .at))
 
 window-requires : tie.Need-window-requires Inv-loop μ-loop
 window-requires c κs = tt
@@ -52,20 +61,29 @@ alternative-in-requires c κs = omega arith
 
 returns-2 : tie.Need-returns-2 Inv-loop μ-loop
 returns-2 c =
-    let a = c .before .before .before .before .before .before .before .args in
-    let w = c .before .before .before .before .before .window .result in
-    let held = shifted (a .plate .now) (a .at) 57 w (c .before .before .before .before .before .window .ensures) (omega arith) 4 (omega arith) in
+    let at-if2 = c .before in
+    let at-part = at-if2 .before in
+    let at-window = at-part .before .before .before in
+    let a = at-window .before .before .args in
+    let w = at-window .window .result in
+    let behind = shifted (a .plate .now) (a .at) 57 w (at-window .window .ensures) (omega arith) 4 (omega arith) in
     let e = c .alternative-in .ensures in (
-      field-one (a .plate .now) (a .at) (c .before .before .part .result) (counted (c .before .before)) (c .before .if2 .taken) (c .alternative-in .result)
-          (e .1 (a .plate .now) (front (a .plate .now) (a .at + 4) 53 _ held (omega arith) 27 (omega arith))),
-      up-further (c .alternative-in .result) (a .at + 4 + 27) (a .at + 220) (omega arith) (e .0),
+      field-one (a .plate .now) (a .at) (at-part .part .result) (counted at-part) (at-if2 .if2 .taken) (c .alternative-in .result)
+          (e .1 (a .plate .now) (front (a .plate .now) (a .at + 4) 53 _ behind (omega arith) alternativeMost (omega arith))),
+      up-further (c .alternative-in .result) (a .at + 4 + alternativeMost) (a .at + fieldMost) (omega arith) (e .0),
     )
 
 returns-3 : tie.Need-returns-3 Inv-loop μ-loop
-returns-3 c = let a = c .before .before .before .before .before .before .before .args in (field-none (a .plate .now) (a .at) (c .before .before .part .result) (counted (c .before .before)) (c .if3 .taken), omega arith)
+returns-3 c =
+    let at-part = c .before .before in
+    let a = entry at-part .args in
+    (field-none (a .plate .now) (a .at) (at-part .part .result) (counted at-part) (c .if3 .taken), omega arith)
 
 returns-4 : tie.Need-returns-4 Inv-loop μ-loop
-returns-4 c = let a = c .before .before .before .before .before .before .before .before .args in (field-over (a .plate .now) (a .at) (c .before .before .before .part .result) (counted (c .before .before .before)) (c .if4 .taken), omega arith)
+returns-4 c =
+    let at-part = c .before .before .before in
+    let a = entry at-part .args in
+    (field-over (a .plate .now) (a .at) (at-part .part .result) (counted at-part) (c .if4 .taken), omega arith)
 
 add-place : tie.Need-add-place Inv-loop μ-loop
 add-place c = omega arith
@@ -84,10 +102,17 @@ enum-told c = search needs
 
 returns-5 : tie.Need-returns-5 Inv-loop μ-loop
 returns-5 c =
-    let a = c .before .before .before .before .before .before .before .before .before .before .before .before .before .args in
-    let l = c .before .before .before .before .loop in (
-      alternatives-stop (a .plate .now) (l .place) (l .left) (c .before .before .before .loop-test .taken) (c .before .before .accept-alternative .result) (c .before .before .accept-alternative .ensures .0) (c .enum-told .given .1)
-          ∙ l .inv .1 ∙ field-is (a .plate .now) (a .at) (c .before .before .before .before .before .before .before .before .part .result) (counted (c .before .before .before .before .before .before .before .before)) (c .before .before .before .before .before .before .if3 .left) (c .before .before .before .before .before .if4 .left),
+    let at-accept-alternative = c .before .before in
+    let at-test = at-accept-alternative .before in
+    let at-loop = at-test .before in
+    let at-if4 = at-loop .before in
+    let at-if3 = at-if4 .before in
+    let at-part = at-if3 .before .before in
+    let a = entry at-part .args in
+    let l = at-loop .loop in (
+      alternatives-stop (a .plate .now) (l .place) (l .left) (at-test .loop-test .taken) (at-accept-alternative .accept-alternative .result)
+          (at-accept-alternative .accept-alternative .ensures .0) (c .enum-told .given .1)
+          ∙ l .inv .1 ∙ field-is (a .plate .now) (a .at) (at-part .part .result) (counted at-part) (at-if3 .if3 .left) (at-if4 .if4 .left),
       omega arith,
     )
 
@@ -99,20 +124,31 @@ loop-less c = omega arith
 
 loop-again : tie.Need-loop-again Inv-loop μ-loop
 loop-again c =
-    let l = c .before .before .before .before .before .loop in
-    let v = c .before .next .given in
-    let w = rw (v .1) at (c .before .before .before .accept-alternative .ensures .1) in (
+    let at-next = c .before in
+    let at-accept-alternative = at-next .before .before in
+    let at-test = at-accept-alternative .before in
+    let at-loop = at-test .before in
+    let at-part = at-loop .before .before .before .before in
+    let at-start = entry at-part in
+    let l = at-loop .loop in
+    let v = at-next .next .given in
+    let w = rw (v .1) at (at-accept-alternative .accept-alternative .ensures .1) in (
       omega arith,
-      alternatives-turn (c .before .before .before .before .before .before .before .before .before .before .before .before .before .before .args .plate .now) (l .place) (l .left) (c .before .before .before .before .loop-test .taken) (c .before .before .before .accept-alternative .result) (c .before .before .before .accept-alternative .ensures .0) (v .0 .0) (v .1) ∙ l .inv .1,
+      alternatives-turn (at-start .args .plate .now) (l .place) (l .left) (at-test .loop-test .taken) (at-accept-alternative .accept-alternative .result)
+          (at-accept-alternative .accept-alternative .ensures .0) (v .0 .0) (v .1) ∙ l .inv .1,
     )
 
 returns-6 : tie.Need-returns-6 Inv-loop μ-loop
 returns-6 c =
-    let a = c .before .before .before .before .before .before .before .before .before .before .args in
-    let l = c .before .loop in
-    let few = c .before .before .if4 .left in (
+    let at-loop = c .before in
+    let at-if4 = at-loop .before in
+    let at-if3 = at-if4 .before in
+    let at-part = at-if3 .before .before in
+    let a = entry at-part .args in
+    let l = at-loop .loop in
+    let few = at-if4 .if4 .left in (
       sym (alternatives-end (a .plate .now) (l .left) (l .place) (c .loop-test .left))
-          ∙ l .inv .1 ∙ field-is (a .plate .now) (a .at) (c .before .before .before .before .before .part .result) (counted (c .before .before .before .before .before)) (c .before .before .before .if3 .left) few,
+          ∙ l .inv .1 ∙ field-is (a .plate .now) (a .at) (at-part .part .result) (counted at-part) (at-if3 .if3 .left) few,
       omega arith,
     )
 

@@ -15,17 +15,28 @@ nonzero-scalar-requires-2 c κs = search needs
 
 returns : tie.Need-returns
 returns c =
-    let a = c .before .before .before .before .before .before .before .args in
-    let f = c .before .before .before .before .before .folding-at in
-    folding-is (a .plate .now) (a .at) (a .key) (f .result .key) (f .ensures .0) (c .before .before .before .before .nonzero-scalar .result) (c .before .before .before .before .nonzero-scalar .ensures) (c .before .before .before .if1 .taken)
-    (f .result .target) (f .ensures .1) (c .before .before .nonzero-scalar2 .result) (c .before .before .nonzero-scalar2 .ensures) (c .before .if2 .taken)
+    let at-if2 = c .before in
+    let at-nonzero-scalar2 = at-if2 .before in
+    let at-if1 = at-nonzero-scalar2 .before in
+    let at-nonzero-scalar = at-if1 .before in
+    let at-folding-at = at-nonzero-scalar .before in
+    let a = at-folding-at .before .before .args in
+    let f = at-folding-at .folding-at in
+    folding-is (a .plate .now) (a .at) (a .key) (f .result .key) (f .ensures .0) (at-nonzero-scalar .nonzero-scalar .result) (at-nonzero-scalar .nonzero-scalar .ensures)
+    (at-if1 .if1 .taken)
+    (f .result .target) (f .ensures .1) (at-nonzero-scalar2 .nonzero-scalar2 .result) (at-nonzero-scalar2 .nonzero-scalar2 .ensures) (at-if2 .if2 .taken)
 
 returns-2 : tie.Need-returns-2
 returns-2 c =
-    let a = c .before .before .before .before .before .before .args in
-    let f = c .before .before .before .before .folding-at in
-    folding-target (a .plate .now) (a .at) (a .key) (f .result .key) (f .ensures .0) (c .before .before .before .nonzero-scalar .result) (c .before .before .before .nonzero-scalar .ensures) (c .before .before .if1 .taken)
-    (f .result .target) (f .ensures .1) (c .before .nonzero-scalar2 .result) (c .before .nonzero-scalar2 .ensures) (c .if2 .left)
+    let at-nonzero-scalar2 = c .before in
+    let at-if1 = at-nonzero-scalar2 .before in
+    let at-nonzero-scalar = at-if1 .before in
+    let at-folding-at = at-nonzero-scalar .before in
+    let a = at-folding-at .before .before .args in
+    let f = at-folding-at .folding-at in
+    folding-target (a .plate .now) (a .at) (a .key) (f .result .key) (f .ensures .0) (at-nonzero-scalar .nonzero-scalar .result)
+    (at-nonzero-scalar .nonzero-scalar .ensures) (at-if1 .if1 .taken)
+    (f .result .target) (f .ensures .1) (at-nonzero-scalar2 .nonzero-scalar2 .result) (at-nonzero-scalar2 .nonzero-scalar2 .ensures) (c .if2 .left)
 
 returns-3 : tie.Need-returns-3
 returns-3 c =

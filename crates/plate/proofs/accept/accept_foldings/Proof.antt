@@ -34,17 +34,27 @@ loop-less c = omega arith
 
 loop-again : tie.Need-loop-again Inv-loop μ-loop
 loop-again c =
-    let a = c .before .before .before .before .before .before .args in
-    let l = c .before .before .before .before .loop in (
+    let at-if1 = c .before in
+    let at-accept-folding = at-if1 .before in
+    let at-test = at-accept-folding .before in
+    let at-loop = at-test .before in
+    let a = at-loop .before .before .args in
+    let l = at-loop .loop in (
       omega arith,
-      foldings-turn (a .plate .now) (l .at) (l .key) (l .left) (c .before .before .before .loop-test .taken) (c .before .before .accept-folding .result) (c .before .before .accept-folding .ensures) (c .before .if1 .taken)
+      foldings-turn (a .plate .now) (l .at) (l .key) (l .left) (at-test .loop-test .taken) (at-accept-folding .accept-folding .result)
+          (at-accept-folding .accept-folding .ensures) (at-if1 .if1 .taken)
           (c .bits .result) (c .bits .ensures .0) ∙ l .inv .1,
     )
 
 returns : tie.Need-returns Inv-loop μ-loop
 returns c =
-    let l = c .before .before .before .loop in
-    foldings-stop (c .before .before .before .before .before .args .plate .now) (l .at) (l .key) (l .left) (c .before .before .loop-test .taken) (c .before .accept-folding .result) (c .before .accept-folding .ensures) (c .if1 .left)
+    let at-accept-folding = c .before in
+    let at-test = at-accept-folding .before in
+    let at-loop = at-test .before in
+    let at-start = at-loop .before .before in
+    let l = at-loop .loop in
+    foldings-stop (at-start .args .plate .now) (l .at) (l .key) (l .left) (at-test .loop-test .taken) (at-accept-folding .accept-folding .result)
+    (at-accept-folding .accept-folding .ensures) (c .if1 .left)
     ∙ l .inv .1
 
 returns-2 : tie.Need-returns-2 Inv-loop μ-loop

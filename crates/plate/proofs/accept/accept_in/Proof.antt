@@ -7,6 +7,12 @@ use Rattle.plate.proofs.Noting.{noted-all, noted-if}
 use Rattle.plate.proofs.accept.accept_in.Statement.{statement}
 use Rattle.plate.proofs.accept.accept_in.Tie as tie
 
+-- The entry, from where the rules are counted.
+abbrev entry : tie.After-size → tie.Start
+entry rules =
+    let number = rules .before .before .before .before in
+    number .before .before .before .before
+
 bits-requires : tie.Need-bits-requires
 bits-requires c κs = search needs
 
@@ -32,29 +38,27 @@ returns-2 c =
     let a = number .before .before .before .before .args in
     (accept-reserved (a .plate .now) (a .number) (a .width) (a .most) (reserved .bits2 .result) (reserved .bits2 .ensures .0) (c .if2 .taken), tt)
 
-count-requires : tie.Need-count-requires
-count-requires c κs = search needs
+size-requires : tie.Need-size-requires
+size-requires c κs = search needs
 
 returns-3 : tie.Need-returns-3
 returns-3 c =
     let rules = c .before in
-    let number = rules .before .before .before .before in
-    let a = number .before .before .before .before .args in
-    (accept-many-rules (a .plate .now) (a .number) (a .width) (a .most) (rules .count .result) (rules .count .ensures .0) (c .if3 .taken), tt)
+    let a = entry rules .args in
+    (accept-many-rules (a .plate .now) (a .number) (a .width) (a .most) (rules .size .result) (rules .size .ensures .0) (c .if3 .taken), tt)
 
-add-count : tie.Need-add-count
-add-count c = search needs
+add-size : tie.Need-add-size
+add-size c = search needs
 
-count-requires-2 : tie.Need-count-requires-2
-count-requires-2 c κs = search needs
+size-requires-2 : tie.Need-size-requires-2
+size-requires-2 c κs = search needs
 
 returns-4 : tie.Need-returns-4
 returns-4 c =
     let foldings = c .before in
     let rules = foldings .before .before in
-    let number = rules .before .before .before .before in
-    let a = number .before .before .before .before .args in
-    (accept-many-foldings (a .plate .now) (a .number) (a .width) (a .most) (foldings .count2 .result) (foldings .count2 .ensures .0) (c .if4 .taken), tt)
+    let a = entry rules .args in
+    (accept-many-foldings (a .plate .now) (a .number) (a .width) (a .most) (foldings .size2 .result) (foldings .size2 .ensures .0) (c .if4 .taken), tt)
 
 accept-foldings-requires : tie.Need-accept-foldings-requires
 accept-foldings-requires c κs = search needs
@@ -66,7 +70,16 @@ add-accept-rules : tie.Need-add-accept-rules
 add-accept-rules c = search needs
 
 accept-rules-requires : tie.Need-accept-rules-requires
-accept-rules-requires c κs = search needs
+accept-rules-requires c κs =
+    let folded = c .before .before .before in
+    let foldings = folded .before .before in
+    let rules = foldings .before .before in
+    let start = entry rules in
+    let few = foldings .before .if3 .left in (
+      omega (arith, folded .before .if4 .left),
+      omega (arith, few, start .pre .1),
+      record { room = omega (arith, few, start .pre .2 .room); clear = start .pre .2 .clear },
+    )
 
 enum-known-end : tie.Need-enum-known-end
 enum-known-end c = search needs
@@ -82,25 +95,26 @@ same-length-2 c = search needs
 
 returns-5 : tie.Need-returns-5
 returns-5 c =
-    let ruled = c .before .before .before .before .before .before in
+    let noted = c .before .before in
+    let ruled = noted .before .before .before .before in
     let folded = ruled .before .before .before .before in
     let foldings = folded .before .before in
     let rules = foldings .before .before in
-    let number = rules .before .before .before .before in
-    let a = number .before .before .before .before .args in (
-      accept-bad-rule (a .plate .now) (a .number) (a .width) (a .most) (foldings .count2 .result) (foldings .count2 .ensures .0) (folded .accept-foldings .result)
-          (folded .accept-foldings .ensures) (rules .count .result) (rules .count .ensures .0) (ruled .accept-rules .result) (ruled .accept-rules .ensures .0) (c .enum-told .given .1),
+    let a = entry rules .args in (
+      accept-bad-rule (a .plate .now) (a .number) (a .width) (a .most) (foldings .size2 .result) (foldings .size2 .ensures .0) (folded .accept-foldings .result)
+          (folded .accept-foldings .ensures) (rules .size .result) (rules .size .ensures .0) (ruled .accept-rules .result) (ruled .accept-rules .ensures .0) (c .enum-told .given .1),
       tt,
     )
 
 is-closed-requires : tie.Need-is-closed-requires
 is-closed-requires c κs =
     let known = c .before in
-    let ruled = known .before .before .before .before .before .before in
+    let noted = known .before .before in
+    let ruled = noted .before .before .before .before in
     let folded = ruled .before .before .before .before in
     let foldings = folded .before .before in
-    let number = foldings .before .before .before .before .before .before in
-    let start = number .before .before .before .before in
+    let rules = foldings .before .before in
+    let start = entry rules in
     let w = rw (known .end .given .1) at (ruled .accept-rules .ensures .1) in
     omega (arith, start .pre .1, foldings .before .if3 .left, folded .before .if4 .left)
 
@@ -113,17 +127,18 @@ same-length-4 c = search needs
 returns-6 : tie.Need-returns-6
 returns-6 c =
     let known = c .before .before in
-    let ruled = known .before .before .before .before .before .before in
+    let noted = known .before .before in
+    let ruled = noted .before .before .before .before in
     let folded = ruled .before .before .before .before in
     let foldings = folded .before .before in
     let rules = foldings .before .before in
     let reserved = rules .before .before in
     let number = reserved .before .before in
-    let a = number .before .before .before .before .args in
+    let a = entry rules .args in
     let s = a .plate .now in
     let v = known .end .given in
-    let m = foldings .count2 in
-    let n = rules .count in
+    let m = foldings .size2 in
+    let n = rules .size in
     let told = ruled .accept-rules .ensures in (
       accept-end s (a .number) (a .width) (a .most) (m .result) (m .ensures .0) (folded .accept-foldings .result) (folded .accept-foldings .ensures) (n .result) (n .ensures .0)
           (ruled .accept-rules .result) (told .0) (number .bits .result) (reserved .bits2 .result) (number .bits .ensures .0) (reserved .before .if1 .left)
@@ -136,9 +151,9 @@ returns-7 : tie.Need-returns-7
 returns-7 c =
     let folded = c .before in
     let foldings = folded .before .before in
-    let number = foldings .before .before .before .before .before .before in
-    let a = number .before .before .before .before .args in (
-      accept-bad-folding (a .plate .now) (a .number) (a .width) (a .most) (foldings .count2 .result) (foldings .count2 .ensures .0) (folded .accept-foldings .result)
+    let rules = foldings .before .before in
+    let a = entry rules .args in (
+      accept-bad-folding (a .plate .now) (a .number) (a .width) (a .most) (foldings .size2 .result) (foldings .size2 .ensures .0) (folded .accept-foldings .result)
           (folded .accept-foldings .ensures) (c .if5 .left),
       tt,
     )
@@ -153,10 +168,10 @@ accept-in-spec =
     sub-bits
     bits-requires-2
     returns-2
-    count-requires
+    size-requires
     returns-3
-    add-count
-    count-requires-2
+    add-size
+    size-requires-2
     returns-4
     accept-foldings-requires
     mul-accept-rules

@@ -1,13 +1,14 @@
 -- `plate::accept::accept_rule` meets its contract: pattern, order and fields are tested in turn, and each refusal is the definition's
 -- (Accepted.rule-pattern, rule-order, rule-fields). Assumes nothing.
+use Prim.Native.Nat.{_+_}
 use native.Mathlib.Omega.{arith}
 use borrow.Author.Needs.{needs}
-use Rattle.plate.proofs.Accepted.{rule-pattern, rule-order, rule-fields, rule-good}
+use Rattle.plate.proofs.Accepted.{pattern-few, rule-pattern, rule-order, rule-fields, rule-good}
 use Rattle.plate.proofs.accept.accept_rule.Statement.{statement}
 use Rattle.plate.proofs.accept.accept_rule.Tie as tie
 
-count-requires : tie.Need-count-requires
-count-requires c κs = search needs
+size-requires : tie.Need-size-requires
+size-requires c κs = search needs
 
 add-accept-pattern : tie.Need-add-accept-pattern
 add-accept-pattern c = search needs
@@ -23,8 +24,11 @@ enum-told c = search needs
 
 returns : tie.Need-returns
 returns c =
-    let a = c .before .before .before .before .before .args in (
-      rule-pattern (a .plate .now) (a .at) (a .c) (a .n) (c .before .before .before .count .result) (c .before .before .before .count .ensures .0) (c .before .before .accept-pattern .result) (c .before .before .accept-pattern .ensures) (c .enum-told .given .1),
+    let at-accept-pattern = c .before .before in
+    let at-size = at-accept-pattern .before in
+    let a = at-size .before .before .args in (
+      rule-pattern (a .plate .now) (a .at) (a .c) (a .n) (at-size .size .result) (at-size .size .ensures .0) (at-accept-pattern .accept-pattern .result)
+          (at-accept-pattern .accept-pattern .ensures) (c .enum-told .given .1),
       omega arith,
     )
 
@@ -51,31 +55,53 @@ enum-told-2 c = search needs
 
 returns-2 : tie.Need-returns-2
 returns-2 c =
-    let a = c .before .before .before .before .before .before .before .before .before .before .before .args in
-    let v = c .before .before .before .before .before .before .code .given in (
-      rule-fields (a .plate .now) (a .at) (a .c) (a .n) (c .before .before .before .before .before .before .before .before .before .count .result) (c .before .before .before .before .before .before .before .before .before .count .ensures .0) (c .before .before .before .before .before .before .before .before .accept-pattern .result) (c .before .before .before .before .before .before .before .before .accept-pattern .ensures)
-          (v .0 .0) (v .1) (c .before .before .before .before .in-order .result) (c .before .before .before .before .in-order .ensures) (c .before .before .before .if1 .taken) (c .before .before .accept-fields .result) (c .before .before .accept-fields .ensures .0) (c .enum-told2 .given .1),
+    let at-accept-fields = c .before .before in
+    let at-if1 = at-accept-fields .before in
+    let at-in-order = at-if1 .before in
+    let at-code = at-in-order .before .before in
+    let at-accept-pattern = at-code .before .before in
+    let at-size = at-accept-pattern .before in
+    let a = at-size .before .before .args in
+    let v = at-code .code .given in (
+      rule-fields (a .plate .now) (a .at) (a .c) (a .n) (at-size .size .result) (at-size .size .ensures .0) (at-accept-pattern .accept-pattern .result)
+          (at-accept-pattern .accept-pattern .ensures)
+          (v .0 .0) (v .1) (at-in-order .in-order .result) (at-in-order .in-order .ensures) (at-if1 .if1 .taken) (at-accept-fields .accept-fields .result)
+          (at-accept-fields .accept-fields .ensures .0) (c .enum-told2 .given .1),
       omega arith,
     )
 
 returns-3 : tie.Need-returns-3
 returns-3 c =
-    let a = c .before .before .before .before .before .before .before .before .before .before .before .before .args in
-    let v = c .before .before .before .before .before .before .before .code .given in
-    let x = c .before .next .given in
-    let b = rw (x .1) at (c .before .before .before .accept-fields .ensures .1) in
-    let n = c .before .before .before .before .before .before .before .before .before .before .count .ensures .1 in (
-      rule-good (a .plate .now) (a .at) (a .c) (a .n) (c .before .before .before .before .before .before .before .before .before .before .count .result) (c .before .before .before .before .before .before .before .before .before .before .count .ensures .0) (c .before .before .before .before .before .before .before .before .before .accept-pattern .result) (c .before .before .before .before .before .before .before .before .before .accept-pattern .ensures)
-          (v .0 .0) (v .1) (c .before .before .before .before .before .in-order .result) (c .before .before .before .before .before .in-order .ensures) (c .before .before .before .before .if1 .taken) (c .before .before .before .accept-fields .result) (c .before .before .before .accept-fields .ensures .0) (x .0 .0) (x .1),
+    let at-next = c .before in
+    let at-accept-fields = at-next .before .before in
+    let at-if1 = at-accept-fields .before in
+    let at-in-order = at-if1 .before in
+    let at-code = at-in-order .before .before in
+    let at-accept-pattern = at-code .before .before in
+    let at-size = at-accept-pattern .before in
+    let a = at-size .before .before .args in
+    let v = at-code .code .given in
+    let x = at-next .next .given in
+    let b = rw (x .1) at (at-accept-fields .accept-fields .ensures .1) in
+    let n = pattern-few (a .plate .now) (at-size .size .result) (a .at + 5) (at-accept-pattern .accept-pattern .result) (at-accept-pattern .accept-pattern .ensures) (v .0 .0) (v .1) in (
+      rule-good (a .plate .now) (a .at) (a .c) (a .n) (at-size .size .result) (at-size .size .ensures .0) (at-accept-pattern .accept-pattern .result)
+          (at-accept-pattern .accept-pattern .ensures)
+          (v .0 .0) (v .1) (at-in-order .in-order .result) (at-in-order .in-order .ensures) (at-if1 .if1 .taken) (at-accept-fields .accept-fields .result)
+          (at-accept-fields .accept-fields .ensures .0) (x .0 .0) (x .1),
       omega arith,
     )
 
 returns-4 : tie.Need-returns-4
 returns-4 c =
-    let a = c .before .before .before .before .before .before .before .before .args in
-    let v = c .before .before .before .code .given in (
-      rule-order (a .plate .now) (a .at) (a .c) (a .n) (c .before .before .before .before .before .before .count .result) (c .before .before .before .before .before .before .count .ensures .0) (c .before .before .before .before .before .accept-pattern .result) (c .before .before .before .before .before .accept-pattern .ensures)
-          (v .0 .0) (v .1) (c .before .in-order .result) (c .before .in-order .ensures) (c .if1 .left),
+    let at-in-order = c .before in
+    let at-code = at-in-order .before .before in
+    let at-accept-pattern = at-code .before .before in
+    let at-size = at-accept-pattern .before in
+    let a = at-size .before .before .args in
+    let v = at-code .code .given in (
+      rule-order (a .plate .now) (a .at) (a .c) (a .n) (at-size .size .result) (at-size .size .ensures .0) (at-accept-pattern .accept-pattern .result)
+          (at-accept-pattern .accept-pattern .ensures)
+          (v .0 .0) (v .1) (at-in-order .in-order .result) (at-in-order .in-order .ensures) (c .if1 .left),
       omega arith,
     )
 
@@ -83,7 +109,7 @@ pub accept-rule-spec : {M : Type 1} → statement M
 accept-rule-spec =
     tie.close
     (tie.spec
-    count-requires
+    size-requires
     add-accept-pattern
     accept-pattern-requires
     enum-known-code

@@ -9,15 +9,22 @@ use native.Mathlib.Omega.{arith}
 use borrow.Author.Needs.{needs}
 use lib.ListN.{length, set, length-set, length-replicate}
 use Rattle.plate.specs.Answers.{rulesStep}
-use Rattle.plate.specs.Noted.{NotedFrom}
+use Rattle.plate.specs.Most.{ruleMost}
+use Rattle.plate.specs.Noted.{notedCharacters, NotedFrom}
 use Rattle.plate.proofs.Accepted.{rules-stop, rules-turn, rules-end}
 use Rattle.plate.proofs.Noting.{Going, going-start, going-turn}
 use Rattle.plate.proofs.accept.accept_rules.Statement.{statement}
 use Rattle.plate.proofs.accept.accept_rules.Tie as tie
 
+-- What the loop keeps beside its bounds: the rules left decide as all do, and those passed are noted.
+record Kept (plate : List ℕ) (from n : ℕ) (lent places groups : List ℕ) (at i begun code len : ℕ) : Type 0 where
+  long : length places ≡ length lent
+  left : rulesStep plate at (n - i) code len ≡ rulesStep plate from n 0 0
+  going : Going plate from i at begun code places groups
+
 abbrev Inv-loop : tie.InvT-loop
 Inv-loop plate from n places₀ groups₀ at₀ i₀ begun₀ code₀ len₀ places groups at i begun code len =
-    (i ≤ n) × (at ≤ from + 913 * i) × (length places ≡ length places₀) × (rulesStep plate at (n - i) code len ≡ rulesStep plate from n 0 0) × Going plate from i at begun code places groups
+    (i ≤ n) × (at ≤ from + ruleMost * i) × Kept plate from n places₀ places groups at i begun code len
 
 abbrev μ-loop : tie.MeasureT-loop
 μ-loop plate from n places₀ groups₀ at₀ i₀ begun₀ code₀ len₀ places groups at i begun code len = n - i
@@ -28,9 +35,11 @@ loop-holds c =
     let a = start .args in (
       omega arith,
       omega arith,
-      refl,
-      ap (λ (k : ℕ). rulesStep (a .plate .now) (a .from) k 0 0) (sub-zero (a .n)),
-      going-start (a .plate .now) (a .from) (a .places .now) (a .groups .now) (start .pre .3),
+      record {
+        long = refl;
+        left = ap (λ (k : ℕ). rulesStep (a .plate .now) (a .from) k 0 0) (sub-zero (a .n));
+        going = going-start (a .plate .now) (a .from) (a .places .now) (a .groups .now) (start .pre .2 .clear);
+      },
     )
 
 accept-rule-requires : tie.Need-accept-rule-requires Inv-loop μ-loop
@@ -43,13 +52,13 @@ enum-told : tie.Need-enum-told Inv-loop μ-loop
 enum-told c = search needs
 
 same-length : tie.Need-same-length Inv-loop μ-loop
-same-length c = let at-loop = c .before .before .before .before in at-loop .loop .inv .2
+same-length c = let at-loop = c .before .before .before .before in at-loop .loop .inv .2 .long
 
 same-length-2 : tie.Need-same-length-2 Inv-loop μ-loop
 same-length-2 c =
     let at-loop = c .before .before .before .before in
     let start = at-loop .before .before .before .before in
-    at-loop .loop .inv .4 .noted .1 .size ∙ sym (ap length (start .pre .3) ∙ length-replicate {A = ℕ} 384 0)
+    at-loop .loop .inv .2 .going .noted .1 .size ∙ sym (ap length (start .pre .2 .clear) ∙ length-replicate {A = ℕ} notedCharacters 0)
 
 returns : tie.Need-returns Inv-loop μ-loop
 returns c =
@@ -58,7 +67,7 @@ returns c =
     let a = let start = at-loop .before .before .before .before in start .args in
     let l = at-loop .loop in (
       rules-stop (a .plate .now) (l .at) (a .n - l .i) (l .code) (l .length) (omega arith) (seen .accept-rule .result) (seen .accept-rule .ensures .0) (c .enum-told .given .1)
-          ∙ l .inv .3,
+          ∙ l .inv .2 .left,
       omega arith,
       tt,
     )
@@ -70,7 +79,7 @@ mul-places : tie.Need-mul-places Inv-loop μ-loop
 mul-places c = omega arith
 
 slice-write-places : tie.Need-slice-write-places Inv-loop μ-loop
-slice-write-places c = let p = let known = c .before in known .before .before .before .before .loop .inv .2 in omega arith
+slice-write-places c = let p = let known = c .before in known .before .before .before .before .loop .inv .2 .long in omega arith
 
 group-start-requires : tie.Need-group-start-requires Inv-loop μ-loop
 group-start-requires c κs = tt
@@ -78,7 +87,7 @@ group-start-requires c κs = tt
 note-group-requires : tie.Need-note-group-requires Inv-loop μ-loop
 note-group-requires c κs =
     let at-loop = let known = c .before .before .before in known .before .before .before .before in
-    let g = at-loop .loop .inv .4 in
+    let g = at-loop .loop .inv .2 .going in
     let q = g .last .rising in
     (g .noted .1 .size, ⊎-elim (λ w. let e = w .1 in omega arith) (λ w. let e = w .1 in omega arith) (c .before .group-start .ensures), omega arith)
 
@@ -102,29 +111,31 @@ loop-again c =
     let v = known .c .given in
     let r = seen .accept-rule in
     let w = rw (v .1) at (r .ensures .1) in
-    let p = l .inv .2 in
+    let p = l .inv .2 .long in
     let going = seen .before .loop-test .taken in
     let more : 0 < a .n - l .i = omega (arith, going) in
-    let room : l .i < length (l .places) = omega (arith, going, p, start .pre .2) in
+    let room : l .i < length (l .places) = omega (arith, going, p, start .pre .2 .room) in
     let b = begun .group-start in (
       omega arith,
       omega arith,
-      length-set (l .places) (l .i) (l .at) ∙ p,
-      ap (λ (k : ℕ). rulesStep s (v .0 .1 .1 .0) k (v .0 .0) (v .0 .1 .0)) {x = a .n - (l .i + 1)} {y = a .n - l .i - 1} (omega arith)
-          ∙ rules-turn s (l .at) (a .n - l .i) (l .code) (l .length) more (r .result) (r .ensures .0) (v .0 .0) (v .0 .1 .0) (v .0 .1 .1 .0) (v .1)
-          ∙ l .inv .3,
-      subst (λ (x : List ℕ). Going s (a .from) (l .i + 1) (v .0 .1 .1 .0) (b .result) (v .0 .0) (set (l .places) (l .i) (l .at)) x) (sym (noted .note-group .ensures))
-          (going-turn s (a .from) (l .i) (l .at) (l .begun) (l .code) (l .places) (l .groups) (l .inv .4) (l .length) (r .result) (r .ensures .0) (v .0 .0) (v .0 .1 .0) (v .0 .1 .1 .0) (v .1)
-          (b .result) (b .ensures) (omega arith) room),
+      record {
+        long = length-set (l .places) (l .i) (l .at) ∙ p;
+        left = ap (λ (k : ℕ). rulesStep s (v .0 .1 .1 .0) k (v .0 .0) (v .0 .1 .0)) {x = a .n - (l .i + 1)} {y = a .n - l .i - 1} (omega arith)
+            ∙ rules-turn s (l .at) (a .n - l .i) (l .code) (l .length) more (r .result) (r .ensures .0) (v .0 .0) (v .0 .1 .0) (v .0 .1 .1 .0) (v .1)
+            ∙ l .inv .2 .left;
+        going = subst (λ (x : List ℕ). Going s (a .from) (l .i + 1) (v .0 .1 .1 .0) (b .result) (v .0 .0) (set (l .places) (l .i) (l .at)) x) (sym (noted .note-group .ensures))
+            (going-turn s (a .from) (l .i) (l .at) (l .begun) (l .code) (l .places) (l .groups) (l .inv .2 .going) (l .length) (r .result) (r .ensures .0) (v .0 .0) (v .0 .1 .0) (v .0 .1 .1 .0) (v .1)
+            (b .result) (b .ensures) (omega arith) room);
+      },
     )
 
 same-length-3 : tie.Need-same-length-3 Inv-loop μ-loop
-same-length-3 c = c .before .loop .inv .2
+same-length-3 c = c .before .loop .inv .2 .long
 
 same-length-4 : tie.Need-same-length-4 Inv-loop μ-loop
 same-length-4 c =
     let start = c .before in
-    start .loop .inv .4 .noted .1 .size ∙ sym (ap length (start .before .before .before .before .pre .3) ∙ length-replicate {A = ℕ} 384 0)
+    start .loop .inv .2 .going .noted .1 .size ∙ sym (ap length (start .before .before .before .before .pre .2 .clear) ∙ length-replicate {A = ℕ} notedCharacters 0)
 
 returns-2 : tie.Need-returns-2 Inv-loop μ-loop
 returns-2 c =
@@ -132,9 +143,9 @@ returns-2 c =
     let a = let start = at-loop .before .before .before .before in start .args in
     let l = at-loop .loop in
     let all : l .i ≡ a .n = omega arith in (
-      sym (rules-end (a .plate .now) (l .at) (a .n - l .i) (l .code) (l .length) (omega arith)) ∙ l .inv .3,
+      sym (rules-end (a .plate .now) (l .at) (a .n - l .i) (l .code) (l .length) (omega arith)) ∙ l .inv .2 .left,
       omega arith,
-      subst (λ (k : ℕ). NotedFrom (a .plate .now) (a .from) k (l .places) (l .groups)) all (l .inv .4 .noted),
+      subst (λ (k : ℕ). NotedFrom (a .plate .now) (a .from) k (l .places) (l .groups)) all (l .inv .2 .going .noted),
     )
 
 pub accept-rules-spec : {M : Type 1} → statement M

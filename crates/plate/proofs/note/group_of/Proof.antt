@@ -32,16 +32,23 @@ returns c =
 rule-count-requires : tie.Need-rule-count-requires
 rule-count-requires c κs = search needs
 
+-- The entry.
+abbrev entry : tie.After-rule-count → tie.Start
+entry c =
+    let tested = c .before in
+    tested .before .before .before .before
+
 -- The rules counted are those that have their places noted.
-placed : (c : tie.After-rule-count) → Placed (c .before .before .before .before .before .args .plate .now) (rulesPlace (edition1 .width) (c .before .before .before .before .before .args .plate .now))
-    (c .rule-count .result) (c .before .before .before .before .before .args .places .now)
+placed : (c : tie.After-rule-count) →
+    let a = entry c .args in
+    Placed (a .plate .now) (rulesPlace (edition1 .width) (a .plate .now)) (c .rule-count .result) (a .places .now)
 placed c =
-    let start = c .before .before .before .before .before in
+    let start = entry c in
     let s = start .args .plate .now in
     subst (λ (n : ℕ). Placed s (rulesPlace (edition1 .width) s) n (start .args .places .now)) (sym (c .rule-count .ensures .0)) (start .pre .1 .0)
 
 rules-below-requires : tie.Need-rules-below-requires
-rules-below-requires c κs = let start = c .before .before .before .before in (start .before .pre .0, placed c, c .rule-count .ensures .0)
+rules-below-requires c κs = (entry c .pre .0, placed c, c .rule-count .ensures .0)
 
 add-rules-below : tie.Need-add-rules-below
 add-rules-below c = search needs
@@ -49,14 +56,13 @@ add-rules-below c = search needs
 rules-below-requires-2 : tie.Need-rules-below-requires-2
 rules-below-requires-2 c κs =
     let counted = c .before in
-    let start = counted .before .before .before .before in
-    (start .before .pre .0, placed counted, counted .rule-count .ensures .0)
+    (entry counted .pre .0, placed counted, counted .rule-count .ensures .0)
 
 returns-2 : tie.Need-returns-2
 returns-2 c =
     let below = c .before in
     let counted = below .before in
-    let a = counted .before .before .before .before .before .args in
+    let a = entry counted .args in
     let rules = plateAt (edition1 .width) (a .plate .now) .rules in
     parted-group (a .c) rules (below .rules-below .result) (c .rules-below2 .result) (below .rules-below .ensures)
     (subst (λ (k : ℕ). Parted rules k (c .rules-below2 .result)) (add-one (a .c)) (c .rules-below2 .ensures))

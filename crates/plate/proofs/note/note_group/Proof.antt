@@ -4,11 +4,15 @@ use mathlib.Core.Path.{sym}
 use native.Mathlib.Omega.{arith}
 use borrow.Author.Needs.{needs}
 use lib.Seq.{set-out}
+use Rattle.plate.specs.Noted.{half}
 use Rattle.plate.proofs.note.note_group.Statement.{statement}
 use Rattle.plate.proofs.note.note_group.Tie as tie
 
+cast-if1 : tie.Need-cast-if1
+cast-if1 c = search needs
+
 returns : tie.Need-returns
-returns c = let a = c .before .args in sym (set-out (a .groups .now) (a .c) (a .first * 65536 + (a .last + 1)) (omega arith))
+returns c = let a = c .before .args in sym (set-out (a .groups .now) (a .c) (a .first * half + (a .last + 1)) (omega arith))
 
 mul-groups : tie.Need-mul-groups
 mul-groups c = search needs
@@ -38,6 +42,7 @@ pub note-group-spec : {M : Type 1} → statement M
 note-group-spec =
     tie.close
     (tie.spec
+    cast-if1
     returns
     mul-groups
     add-groups

@@ -5,12 +5,12 @@ use native.Mathlib.Omega.{arith}
 use borrow.Author.Needs.{needs}
 use lib.ListN.{getD}
 use Rattle.plate.specs.Plate.{firstCode, edition1}
+use Rattle.plate.specs.Most.{mostRules}
 use Rattle.plate.specs.Read.{ruleAt, ruleEnd, ruleCount, rulesPlace, plateAt}
 use Rattle.plate.specs.Stands.{Here}
 use Rattle.plate.specs.declared.Letter.{Letter}
-use Rattle.plate.proofs.Place.{number-lt}
 use Rattle.plate.proofs.Listed.{length-many}
-use Rattle.plate.proofs.Facts.{rules-ordered}
+use Rattle.plate.proofs.Facts.{rules-few, rules-ordered}
 use Rattle.plate.proofs.Parts.{pattern-some, mark-start}
 use Rattle.plate.proofs.Noting.{placed-here, placed-rule}
 use Rattle.plate.proofs.Halves.{Halving, halving-start, halving-end, halving-up, halving-down}
@@ -18,55 +18,61 @@ use Rattle.plate.proofs.note.rules_below.Statement.{statement}
 use Rattle.plate.proofs.note.rules_below.Tie as tie
 
 abbrev Inv-loop : tie.InvT-loop
-Inv-loop plate places n c low₀ high₀ low high = (low ≤ high) × (high ≤ n) × (n < 1024) × Halving (plateAt (edition1 .width) plate .rules) c low high
+Inv-loop plate places n c low₀ high₀ low high = (low ≤ high) × (high ≤ n) × Halving (plateAt (edition1 .width) plate .rules) c low high
 
 abbrev μ-loop : tie.MeasureT-loop
 μ-loop plate places n c low₀ high₀ low high = high - low
+
+-- The entry.
+abbrev entry : tie.In-loop Inv-loop μ-loop → tie.Start Inv-loop μ-loop
+entry c = c .before .before .before .before
+
+-- There are few rules.
+few : (s : tie.Start Inv-loop μ-loop) → s .args .n ≤ mostRules
+few s = omega (arith, s .pre .2, rules-few edition1 (s .args .plate .now) (s .pre .0))
 
 loop-holds : tie.Need-loop-holds Inv-loop μ-loop
 loop-holds c =
     let start = c .before .before in
     let s = start .args .plate .now in
-    let few = number-lt s 8 10 in
     let counted = start .pre .2 in
     let long = length-many (ruleAt s) (ruleEnd s) (ruleCount (edition1 .width) s) (rulesPlace (edition1 .width) s) in
-    (omega arith, omega arith, omega arith, halving-start (plateAt (edition1 .width) s .rules) (start .args .c) (start .args .n) (counted ∙ sym long))
+    (omega arith, omega arith, halving-start (plateAt (edition1 .width) s .rules) (start .args .c) (start .args .n) (counted ∙ sym long))
 
 sub-middle : tie.Need-sub-middle Inv-loop μ-loop
 sub-middle c = omega arith
 
 add-middle : tie.Need-add-middle Inv-loop μ-loop
-add-middle c = omega arith
+add-middle c = omega (arith, few (entry c))
 
 mul-here : tie.Need-mul-here Inv-loop μ-loop
-mul-here c = omega arith
+mul-here c = omega (arith, few (entry c))
 
 -- the rule in the middle
 abbrev middle : tie.In-loop Inv-loop μ-loop → ℕ
 middle c = c .before .loop .low + (c .before .loop .high - c .before .loop .low) / 2
 
-counts : (c : tie.In-loop Inv-loop μ-loop) → middle c < c .before .before .before .before .args .n
+counts : (c : tie.In-loop Inv-loop μ-loop) → middle c < entry c .args .n
 counts c = omega arith
 
-here : (c : tie.In-loop Inv-loop μ-loop) → Here (c .before .before .before .before .args .plate .now) (getD (c .before .before .before .before .args .places .now) (middle c) 0)
+here : (c : tie.In-loop Inv-loop μ-loop) → let a = entry c .args in Here (a .plate .now) (getD (a .places .now) (middle c) 0)
 here c =
-    let start = c .before .before .before .before in
+    let start = entry c in
     placed-here (start .args .plate .now) (start .args .places .now) (start .args .n) (start .pre .0) (start .pre .1) (start .pre .2) (middle c) (counts c)
 
 shared-slice-read-here : tie.Need-shared-slice-read-here Inv-loop μ-loop
 shared-slice-read-here c =
-    let start = c .before .before .before .before in
-    omega (arith, start .before .pre .1 .room, counts (c .before))
+    omega (arith, entry (c .before) .pre .1 .room, counts (c .before))
 
 cast-here : tie.Need-cast-here Inv-loop μ-loop
 cast-here c = record { fits = let n = here (c .before) .near in omega arith }
 
 pattern-char-requires : tie.Need-pattern-char-requires Inv-loop μ-loop
 pattern-char-requires c κs =
-    let start = c .before .before .before .before in
-    let s = start .before .args .plate .now in
-    let at = getD (start .before .args .places .now) (middle (c .before)) 0 in
-    let h = here (c .before) in
+    let turn = c .before in
+    let s = entry turn .args .plate .now in
+    let at = getD (entry turn .args .places .now) (middle turn) 0 in
+    let h = here turn in
     (h, mark-start s at h, pattern-some s at h)
 
 cast-if1 : tie.Need-cast-if1 Inv-loop μ-loop
@@ -79,23 +85,29 @@ loop-less : tie.Need-loop-less Inv-loop μ-loop
 loop-less c = omega arith
 
 -- The character that was read is its first.
-first : (c : tie.After-pattern-char Inv-loop μ-loop) → firstCode (getD (plateAt (edition1 .width) (c .before .before .before .before .before .before .args .plate .now) .rules) (middle (c .before .before))
-    (ruleAt (c .before .before .before .before .before .before .args .plate .now) 0)) ≡ c .pattern-char .result .code
+first : (c : tie.After-pattern-char Inv-loop μ-loop) →
+    let s = entry (c .before .before) .args .plate .now in
+    firstCode (getD (plateAt (edition1 .width) s .rules) (middle (c .before .before)) (ruleAt s 0)) ≡ c .pattern-char .result .code
 first c =
-    let start = c .before .before .before .before .before .before in
+    let turn = c .before .before in
+    let start = entry turn in
     let s = start .args .plate .now in
-    ap firstCode (placed-rule s (start .args .places .now) (start .args .n) (start .pre .0) (start .pre .1) (start .pre .2) (middle (c .before .before)) (counts (c .before .before)) (ruleAt s 0))
+    ap firstCode (placed-rule s (start .args .places .now) (start .args .n) (start .pre .0) (start .pre .1) (start .pre .2) (middle turn) (counts turn) (ruleAt s 0))
     ∙ sym (ap (λ (l : Letter). l .code) (c .pattern-char .ensures .is))
 
 loop-again : tie.Need-loop-again Inv-loop μ-loop
 loop-again c =
     let read = c .before .before in
     let turn = read .before .before in
-    let start = turn .before .before .before .before in
+    let start = entry turn in
     let s = start .args .plate .now in
     let l = turn .before .loop in
-    let f = first read in
-    (omega arith, omega arith, omega arith, halving-up (plateAt (edition1 .width) s .rules) (start .args .c) (l .low) (l .high) (middle turn) (l .inv .3) (ruleAt s 0) (rules-ordered edition1 s (start .pre .0)) (omega arith) (omega arith))
+    let f = first read in (
+      omega arith,
+      omega arith,
+      halving-up (plateAt (edition1 .width) s .rules) (start .args .c) (l .low) (l .high) (middle turn) (l .inv .2) (ruleAt s 0) (rules-ordered edition1 s (start .pre .0))
+          (omega arith) (omega arith),
+    )
 
 loop-less-2 : tie.Need-loop-less-2 Inv-loop μ-loop
 loop-less-2 c = omega arith
@@ -104,17 +116,21 @@ loop-again-2 : tie.Need-loop-again-2 Inv-loop μ-loop
 loop-again-2 c =
     let read = c .before .before in
     let turn = read .before .before in
-    let start = turn .before .before .before .before in
+    let start = entry turn in
     let s = start .args .plate .now in
     let l = turn .before .loop in
-    let f = first read in
-    (omega arith, omega arith, omega arith, halving-down (plateAt (edition1 .width) s .rules) (start .args .c) (l .low) (l .high) (middle turn) (l .inv .3) (ruleAt s 0) (rules-ordered edition1 s (start .pre .0)) (omega arith) (omega arith) (omega arith))
+    let f = first read in (
+      omega arith,
+      omega arith,
+      halving-down (plateAt (edition1 .width) s .rules) (start .args .c) (l .low) (l .high) (middle turn) (l .inv .2) (ruleAt s 0) (rules-ordered edition1 s (start .pre .0))
+          (omega arith) (omega arith) (omega arith),
+    )
 
 returns : tie.Need-returns Inv-loop μ-loop
 returns c =
     let start = c .before .before .before .before in
     let l = c .before .loop in
-    halving-end (plateAt (edition1 .width) (start .args .plate .now) .rules) (start .args .c) (l .low) (l .high) (l .inv .3) (c .loop-test .left)
+    halving-end (plateAt (edition1 .width) (start .args .plate .now) .rules) (start .args .c) (l .low) (l .high) (l .inv .2) (c .loop-test .left)
 
 pub rules-below-spec : {M : Type 1} → statement M
 rules-below-spec =

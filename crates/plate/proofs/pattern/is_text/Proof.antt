@@ -29,8 +29,13 @@ enum-told c = search needs
 
 returns : tie.Need-returns Inv-loop μ-loop
 returns c =
-    let l = c .before .before .before .before .loop in
-    sym (text-stop (c .before .before .before .before .before .before .args .plate .now) (l .left) (l .place) (c .before .before .before .loop-test .taken) (c .before .before .front .result) (c .before .before .front .ensures .0) (c .enum-told .given .1)) ∙ l .inv .1
+    let at-front = c .before .before in
+    let at-test = at-front .before in
+    let at-loop = at-test .before in
+    let at-start = at-loop .before .before in
+    let l = at-loop .loop in
+    sym (text-stop (at-start .args .plate .now) (l .left) (l .place) (at-test .loop-test .taken) (at-front .front .result) (at-front .front .ensures .0)
+    (c .enum-told .given .1)) ∙ l .inv .1
 
 mul-place : tie.Need-mul-place Inv-loop μ-loop
 mul-place c = let w = rw (c .before .code .given .1) at (c .before .before .before .front .ensures .1) in omega arith
@@ -46,11 +51,17 @@ loop-less c = let w = rw (c .before .code .given .1) at (c .before .before .befo
 
 loop-again : tie.Need-loop-again Inv-loop μ-loop
 loop-again c =
-    let l = c .before .before .before .before .before .loop in
-    let v = c .before .code .given in
-    let w = rw (v .1) at (c .before .before .before .front .ensures .1) in (
+    let at-code = c .before in
+    let at-front = at-code .before .before in
+    let at-test = at-front .before in
+    let at-loop = at-test .before in
+    let at-start = at-loop .before .before in
+    let l = at-loop .loop in
+    let v = at-code .code .given in
+    let w = rw (v .1) at (at-front .front .ensures .1) in (
       omega arith,
-      text-turn (c .before .before .before .before .before .before .before .args .plate .now) (l .left) (l .place) (c .before .before .before .before .loop-test .taken) (c .before .before .before .front .result) (c .before .before .before .front .ensures .0) (v .0 .0) (v .0 .1 .0) (v .1) ∙ l .inv .1,
+      text-turn (at-start .args .plate .now) (l .left) (l .place) (at-test .loop-test .taken) (at-front .front .result) (at-front .front .ensures .0) (v .0 .0)
+          (v .0 .1 .0) (v .1) ∙ l .inv .1,
     )
 
 returns-2 : tie.Need-returns-2 Inv-loop μ-loop

@@ -9,15 +9,26 @@ use Rattle.plate.proofs.Fronts.{from-four, decoded-zero, decoded-is, de
 use Rattle.plate.proofs.pattern.wide_front.Statement.{statement}
 use Rattle.plate.proofs.pattern.wide_front.Tie as tie
 
--- There is a first byte, and the decoder saw the bytes.
-some : (c : tie.After-char-from) → 0 < c .before .before .before .before .before .before .args .n
-some c = c .before .before .before .before .before .before .pre .1
+-- The entry.
+abbrev entry : tie.After-char-from → tie.Start
+entry p =
+    let at-byte-at = p .before .before .before .before in
+    at-byte-at .before .before
 
-whole : (c : tie.After-char-from) → let a = c .before .before .before .before .before .before .args in c .char-from .result ≡ charOf (bytesAt (a .plate .now) (a .n) (a .at))
+-- There is a first byte, and the decoder saw the bytes.
+some : (c : tie.After-char-from) → 0 < entry c .args .n
+some c = entry c .pre .1
+
+whole : (c : tie.After-char-from) → let a = entry c .args in c .char-from .result ≡ charOf (bytesAt (a .plate .now) (a .n) (a .at))
 whole c =
-    let a = c .before .before .before .before .before .before .args in
-    from-four (a .plate .now) (a .n) (a .at) (some c) (c .before .before .before .before .byte-at .result) (c .before .before .before .byte-at2 .result) (c .before .before .byte-at3 .result) (c .before .byte-at4 .result) (c .char-from .result)
-    (c .before .before .before .before .byte-at .ensures) (c .before .before .before .byte-at2 .ensures) (c .before .before .byte-at3 .ensures) (c .before .byte-at4 .ensures) (c .char-from .ensures)
+    let at-byte-at4 = c .before in
+    let at-byte-at3 = at-byte-at4 .before in
+    let at-byte-at2 = at-byte-at3 .before in
+    let at-byte-at = at-byte-at2 .before in
+    let a = at-byte-at .before .before .args in
+    from-four (a .plate .now) (a .n) (a .at) (some c) (at-byte-at .byte-at .result) (at-byte-at2 .byte-at2 .result) (at-byte-at3 .byte-at3 .result)
+    (at-byte-at4 .byte-at4 .result) (c .char-from .result) (at-byte-at .byte-at .ensures) (at-byte-at2 .byte-at2 .ensures)
+    (at-byte-at3 .byte-at3 .ensures) (at-byte-at4 .byte-at4 .ensures) (c .char-from .ensures)
 
 byte-at-requires : tie.Need-byte-at-requires
 byte-at-requires c κs = search needs
@@ -39,9 +50,11 @@ enum-known-code c = search needs
 
 returns : tie.Need-returns
 returns c =
-    let a = c .before .before .before .before .before .before .before .before .before .before .args in
-    let v = c .before .before .code .given in
-    decoded-zero (a .plate .now) (a .n) (a .at) (some (c .before .before .before .before)) (c .before .before .before .before .char-from .result) (whole (c .before .before .before .before)) (v .0 .0) (v .0 .1 .0) (v .1) (c .if1 .taken)
+    let at-code = c .before .before in
+    let at-char-from = at-code .before .before in
+    let a = entry at-char-from .args in
+    let v = at-code .code .given in
+    decoded-zero (a .plate .now) (a .n) (a .at) (some at-char-from) (at-char-from .char-from .result) (whole at-char-from) (v .0 .0) (v .0 .1 .0) (v .1) (c .if1 .taken)
 
 enum-told : tie.Need-enum-told
 enum-told c = search needs
@@ -51,19 +64,23 @@ enum-told-2 c = search needs
 
 returns-2 : tie.Need-returns-2
 returns-2 c =
-    let a = c .before .before .before .before .before .before .before .before .before .before .args in
-    let v = c .before .before .code .given in
-    decoded-is (a .plate .now) (a .n) (a .at) (some (c .before .before .before .before)) (c .before .before .before .before .char-from .result) (whole (c .before .before .before .before)) (v .0 .0) (v .0 .1 .0) (v .1) (c .if1 .left)
+    let at-code = c .before .before in
+    let at-char-from = at-code .before .before in
+    let a = entry at-char-from .args in
+    let v = at-code .code .given in
+    decoded-is (a .plate .now) (a .n) (a .at) (some at-char-from) (at-char-from .char-from .result) (whole at-char-from) (v .0 .0) (v .0 .1 .0) (v .1) (c .if1 .left)
 
 returns-3 : tie.Need-returns-3
 returns-3 c =
-    let a = c .before .before .before .before .before .before .before .before .args in
-    decoded-bad (a .plate .now) (a .n) (a .at) (some (c .before .before)) (c .before .before .char-from .result) (whole (c .before .before)) (c .enum-told .given .1)
+    let at-char-from = c .before .before in
+    let a = entry at-char-from .args in
+    decoded-bad (a .plate .now) (a .n) (a .at) (some at-char-from) (at-char-from .char-from .result) (whole at-char-from) (c .enum-told .given .1)
 
 returns-4 : tie.Need-returns-4
 returns-4 c =
-    let a = c .before .before .before .before .before .before .before .before .args in
-    decoded-end (a .plate .now) (a .n) (a .at) (some (c .before .before)) (c .before .before .char-from .result) (whole (c .before .before)) (c .enum-told2 .given .1)
+    let at-char-from = c .before .before in
+    let a = entry at-char-from .args in
+    decoded-end (a .plate .now) (a .n) (a .at) (some at-char-from) (at-char-from .char-from .result) (whole at-char-from) (c .enum-told2 .given .1)
 
 pub wide-front-spec : {M : Type 1} → statement M
 wide-front-spec =

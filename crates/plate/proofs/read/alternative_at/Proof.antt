@@ -5,6 +5,7 @@ use mathlib.Core.Path.{_≡_, refl}
 use mathlib.Core.List.{_++_}
 use native.Mathlib.Omega.{arith}
 use lib.ListN.{replicate}
+use Rattle.plate.specs.Plate.{mostDigits}
 use Rattle.plate.specs.Bits.{numberAt}
 use Rattle.plate.specs.Read.{many}
 use Rattle.plate.proofs.Parts.{count-six, digits-store, alternative-held}
@@ -13,30 +14,30 @@ use Rattle.plate.proofs.read.alternative_at.Tie as tie
 
 abbrev Inv-loop : tie.InvT-loop
 Inv-loop plate at n number digits₀ k₀ digits k =
-    (k ≤ n) × (n ≤ 6) × (digits ≡ many (λ p. 48 + numberAt plate p 4) (λ p. p + 4) k (at + 3) ++ replicate (6 - k) 48)
+    (k ≤ n) × (n ≤ mostDigits) × (digits ≡ many (λ p. 48 + numberAt plate p 4) (λ p. p + 4) k (at + 3) ++ replicate (mostDigits - k) 48)
 
 abbrev μ-loop : tie.MeasureT-loop
 μ-loop plate at n number digits₀ k₀ digits k = n - k
 
-count-requires : tie.Need-count-requires Inv-loop μ-loop
-count-requires c κs = omega arith
+size-requires : tie.Need-size-requires Inv-loop μ-loop
+size-requires c κs = omega arith
 
 add-bits : tie.Need-add-bits Inv-loop μ-loop
 add-bits c = omega arith
 
 mul-bits : tie.Need-mul-bits Inv-loop μ-loop
-mul-bits c = let h = c .count .ensures .1 in omega arith
+mul-bits c = let h = c .size .ensures .1 in omega arith
 
 bits-requires : tie.Need-bits-requires Inv-loop μ-loop
 bits-requires c κs =
     let a = c .before .before .args in
-    let h = count-six (a .plate .now) (a .at) (c .count .result) (c .count .ensures .0) (c .before .before .pre .1) in
+    let h = count-six (a .plate .now) (a .at) (c .size .result) (c .size .ensures .0) (c .before .before .pre .1) in
     omega arith
 
 loop-holds : tie.Need-loop-holds Inv-loop μ-loop
 loop-holds c =
     let a = c .before .before .before .args in
-    (omega arith, count-six (a .plate .now) (a .at) (c .before .count .result) (c .before .count .ensures .0) (c .before .before .before .pre .1), refl)
+    (omega arith, count-six (a .plate .now) (a .at) (c .before .size .result) (c .before .size .ensures .0) (c .before .before .before .pre .1), refl)
 
 mul-digits : tie.Need-mul-digits Inv-loop μ-loop
 mul-digits c = omega arith
@@ -73,12 +74,16 @@ loop-less c = omega arith
 
 loop-again : tie.Need-loop-again Inv-loop μ-loop
 loop-again c =
-    let a = c .before .before .before .before .before .args in
-    let l = c .before .loop in
+    let at-loop = c .before in
+    let at-bits = at-loop .before in
+    let at-size = at-bits .before in
+    let a = at-size .before .before .args in
+    let l = at-loop .loop in
     let h : l .k < 6 = omega arith in (
       omega arith,
       omega arith,
-      digits-store (a .plate .now) (a .at) (c .before .before .before .count .result) (c .before .before .before .count .ensures .0) (c .before .before .bits .result) (c .before .before .bits .ensures .0) (l .k) (c .loop-test .taken) h (l .digits) (l .inv .2),
+      digits-store (a .plate .now) (a .at) (at-size .size .result) (at-size .size .ensures .0) (at-bits .bits .result) (at-bits .bits .ensures .0) (l .k)
+          (c .loop-test .taken) h (l .digits) (l .inv .2),
     )
 
 cast-t22 : tie.Need-cast-t22 Inv-loop μ-loop
@@ -86,9 +91,11 @@ cast-t22 c = omega arith
 
 returns : tie.Need-returns Inv-loop μ-loop
 returns c =
-    let a = c .before .before .before .before .before .args in
-    let l = c .before .loop in
-    alternative-held (a .plate .now) (a .at) (c .before .before .before .count .result) (c .before .before .before .count .ensures .0) (l .k) (omega arith) (l .digits) (l .inv .2)
+    let at-loop = c .before in
+    let at-size = at-loop .before .before in
+    let a = at-size .before .before .args in
+    let l = at-loop .loop in
+    alternative-held (a .plate .now) (a .at) (at-size .size .result) (at-size .size .ensures .0) (l .k) (omega arith) (l .digits) (l .inv .2)
 
 pub alternative-at-spec : {M : Type 1} → statement M
 alternative-at-spec =
@@ -96,7 +103,7 @@ alternative-at-spec =
     (tie.spec
     Inv-loop
     μ-loop
-    count-requires
+    size-requires
     add-bits
     mul-bits
     bits-requires

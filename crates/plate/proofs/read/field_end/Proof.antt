@@ -15,8 +15,8 @@ Inv-loop plate at front place₀ left₀ place left = (place + 31 * left ≤ at 
 abbrev μ-loop : tie.MeasureT-loop
 μ-loop plate at front place₀ left₀ place left = left
 
-count-requires : tie.Need-count-requires Inv-loop μ-loop
-count-requires c κs = omega arith
+size-requires : tie.Need-size-requires Inv-loop μ-loop
+size-requires c κs = omega arith
 
 add-result : tie.Need-add-result Inv-loop μ-loop
 add-result c = omega arith
@@ -30,7 +30,7 @@ add-result-2 c = omega arith
 returns : tie.Need-returns Inv-loop μ-loop
 returns c =
     let a = c .before .before .before .args in
-    (field-one (a .plate .now) (a .at) (c .before .count .result) (c .before .count .ensures .0) (c .if1 .taken), omega arith)
+    field-one (a .plate .now) (a .at) (c .before .size .result) (c .before .size .ensures .0) (c .if1 .taken)
 
 add-place : tie.Need-add-place Inv-loop μ-loop
 add-place c = omega arith
@@ -38,21 +38,21 @@ add-place c = omega arith
 loop-holds : tie.Need-loop-holds Inv-loop μ-loop
 loop-holds c =
     let a = c .before .before .before .args in
-    let f = field-front (a .plate .now) (a .at) (c .before .count .result) (c .before .count .ensures .0) in
-    let h = c .before .count .ensures .1 in
+    let f = field-front (a .plate .now) (a .at) (c .before .size .result) (c .before .size .ensures .0) in
+    let h = c .before .size .ensures .1 in
     (omega arith, ap (λ (n : ℕ). past (alternativeEnd (a .plate .now)) n (a .at + 4)) (f .0))
 
 add-place-2 : tie.Need-add-place-2 Inv-loop μ-loop
 add-place-2 c = omega arith
 
-count-requires-2 : tie.Need-count-requires-2 Inv-loop μ-loop
-count-requires-2 c κs = omega arith
+size-requires-2 : tie.Need-size-requires-2 Inv-loop μ-loop
+size-requires-2 c κs = omega arith
 
 mul-place : tie.Need-mul-place Inv-loop μ-loop
-mul-place c = let h = c .count2 .ensures .1 in omega arith
+mul-place c = let h = c .size2 .ensures .1 in omega arith
 
 add-place-3 : tie.Need-add-place-3 Inv-loop μ-loop
-add-place-3 c = let h = c .count2 .ensures .1 in omega arith
+add-place-3 c = let h = c .size2 .ensures .1 in omega arith
 
 sub-left : tie.Need-sub-left Inv-loop μ-loop
 sub-left c = omega arith
@@ -62,14 +62,19 @@ loop-less c = omega arith
 
 loop-again : tie.Need-loop-again Inv-loop μ-loop
 loop-again c =
-    let l = c .before .before .loop in
-    let h = c .count2 .ensures .1 in
-    (omega arith, field-turn (c .before .before .before .before .before .before .args .plate .now) (l .place) (l .left) (c .before .loop-test .taken) (c .count2 .result) (c .count2 .ensures .0) ∙ l .inv .1)
+    let at-test = c .before in
+    let at-loop = at-test .before in
+    let at-start = at-loop .before .before .before .before in
+    let l = at-loop .loop in
+    let h = c .size2 .ensures .1 in
+    (omega arith, field-turn (at-start .args .plate .now) (l .place) (l .left) (at-test .loop-test .taken) (c .size2 .result) (c .size2 .ensures .0) ∙ l .inv .1)
 
 returns-2 : tie.Need-returns-2 Inv-loop μ-loop
 returns-2 c =
-    let l = c .before .loop in
-    (sym (past-end (alternativeEnd (c .before .before .before .before .before .args .plate .now)) (l .left) (l .place) (c .loop-test .left)) ∙ l .inv .1, omega arith)
+    let at-loop = c .before in
+    let at-start = at-loop .before .before .before .before in
+    let l = at-loop .loop in
+    sym (past-end (alternativeEnd (at-start .args .plate .now)) (l .left) (l .place) (c .loop-test .left)) ∙ l .inv .1
 
 pub field-end-spec : {M : Type 1} → statement M
 field-end-spec =
@@ -77,7 +82,7 @@ field-end-spec =
     (tie.spec
     Inv-loop
     μ-loop
-    count-requires
+    size-requires
     add-result
     mul-result
     add-result-2
@@ -85,7 +90,7 @@ field-end-spec =
     add-place
     loop-holds
     add-place-2
-    count-requires-2
+    size-requires-2
     mul-place
     add-place-3
     sub-left

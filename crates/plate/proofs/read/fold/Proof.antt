@@ -5,31 +5,32 @@ use mathlib.Core.Path.{_≡_, _∙_, ap}
 use mathlib.Core.Bool.{true}
 use native.Mathlib.Omega.{arith}
 use Rattle.plate.specs.Plate.{edition1, rising}
+use Rattle.plate.specs.Most.{foldingsMost}
 use Rattle.plate.specs.Read.{many, foldingAt, foldingEnd, foldBy, foldingCount}
-use Rattle.plate.proofs.Facts.{keys-rise}
+use Rattle.plate.proofs.Facts.{foldings-few, keys-rise}
 use Rattle.plate.proofs.Parts.{fold-below, fold-hit, fold-miss, fold-rest, fold-end}
 use Rattle.plate.proofs.read.fold.Statement.{statement}
 use Rattle.plate.proofs.read.fold.Tie as tie
 
 abbrev Inv-loop : tie.InvT-loop
 Inv-loop plate c at₀ left₀ at left =
-    (at + 42 * left ≤ 20000) × (rising (many (foldingAt plate) foldingEnd left at) ≡ true)
+    (at + 42 * left ≤ foldingsMost) × (rising (many (foldingAt plate) foldingEnd left at) ≡ true)
     × (foldBy (many (foldingAt plate) foldingEnd left at) c ≡ foldBy (many (foldingAt plate) foldingEnd (foldingCount (edition1 .width) plate) 32) c)
 
 abbrev μ-loop : tie.MeasureT-loop
 μ-loop plate c at₀ left₀ at left = left
 
-count-requires : tie.Need-count-requires Inv-loop μ-loop
-count-requires c κs = omega arith
+size-requires : tie.Need-size-requires Inv-loop μ-loop
+size-requires c κs = omega arith
 
 loop-holds : tie.Need-loop-holds Inv-loop μ-loop
 loop-holds c =
     let a = c .before .before .args in
     let s = a .plate .now in
-    let h = c .count .ensures .1 in (
-      omega arith,
-      ap (λ (n : ℕ). rising (many (foldingAt s) foldingEnd n 32)) (c .count .ensures .0) ∙ keys-rise edition1 s (c .before .before .pre),
-      ap (λ (n : ℕ). foldBy (many (foldingAt s) foldingEnd n 32) (a .c)) (c .count .ensures .0),
+    let h = foldings-few edition1 s (c .before .before .pre) in (
+      omega (arith, c .size .ensures .0),
+      ap (λ (n : ℕ). rising (many (foldingAt s) foldingEnd n 32)) (c .size .ensures .0) ∙ keys-rise edition1 s (c .before .before .pre),
+      ap (λ (n : ℕ). foldBy (many (foldingAt s) foldingEnd n 32) (a .c)) (c .size .ensures .0),
     )
 
 bits-requires : tie.Need-bits-requires Inv-loop μ-loop
@@ -37,9 +38,13 @@ bits-requires c κs = omega arith
 
 returns : tie.Need-returns Inv-loop μ-loop
 returns c =
-    let a = c .before .before .before .before .before .before .args in
-    let l = c .before .before .before .loop in
-    fold-below (a .plate .now) (a .c) (l .at) (l .left) (c .before .before .loop-test .taken) (c .before .bits .result) (c .before .bits .ensures .0) (l .inv .1) (c .if1 .taken) ∙ l .inv .2
+    let at-bits = c .before in
+    let at-test = at-bits .before in
+    let at-loop = at-test .before in
+    let a = at-loop .before .before .before .args in
+    let l = at-loop .loop in
+    fold-below (a .plate .now) (a .c) (l .at) (l .left) (at-test .loop-test .taken) (at-bits .bits .result) (at-bits .bits .ensures .0) (l .inv .1) (c .if1 .taken)
+    ∙ l .inv .2
 
 add-bits : tie.Need-add-bits Inv-loop μ-loop
 add-bits c = omega arith
@@ -49,9 +54,14 @@ bits-requires-2 c κs = omega arith
 
 returns-2 : tie.Need-returns-2 Inv-loop μ-loop
 returns-2 c =
-    let a = c .before .before .before .before .before .before .before .before .args in
-    let l = c .before .before .before .before .before .loop in
-    fold-hit (a .plate .now) (a .c) (l .at) (l .left) (c .before .before .before .before .loop-test .taken) (c .before .before .before .bits .result) (c .before .before .before .bits .ensures .0) (c .before .if2 .taken) (c .bits2 .result) (c .bits2 .ensures .0)
+    let at-if2 = c .before in
+    let at-bits = at-if2 .before .before in
+    let at-test = at-bits .before in
+    let at-loop = at-test .before in
+    let a = at-loop .before .before .before .args in
+    let l = at-loop .loop in
+    fold-hit (a .plate .now) (a .c) (l .at) (l .left) (at-test .loop-test .taken) (at-bits .bits .result) (at-bits .bits .ensures .0) (at-if2 .if2 .taken)
+    (c .bits2 .result) (c .bits2 .ensures .0)
     ∙ l .inv .2
 
 add-at : tie.Need-add-at Inv-loop μ-loop
@@ -65,11 +75,14 @@ loop-less c = omega arith
 
 loop-again : tie.Need-loop-again Inv-loop μ-loop
 loop-again c =
-    let a = c .before .before .before .before .before .before .before .args in
-    let l = c .before .before .before .before .loop in (
+    let at-bits = c .before .before in
+    let at-test = at-bits .before in
+    let at-loop = at-test .before in
+    let a = at-loop .before .before .before .args in
+    let l = at-loop .loop in (
       omega arith,
-      fold-rest (a .plate .now) (a .c) (l .at) (l .left) (c .before .before .before .loop-test .taken) (c .before .before .bits .result) (c .before .before .bits .ensures .0) (l .inv .1),
-      fold-miss (a .plate .now) (a .c) (l .at) (l .left) (c .before .before .before .loop-test .taken) (c .before .before .bits .result) (c .before .before .bits .ensures .0) (c .if2 .left) ∙ l .inv .2,
+      fold-rest (a .plate .now) (a .c) (l .at) (l .left) (at-test .loop-test .taken) (at-bits .bits .result) (at-bits .bits .ensures .0) (l .inv .1),
+      fold-miss (a .plate .now) (a .c) (l .at) (l .left) (at-test .loop-test .taken) (at-bits .bits .result) (at-bits .bits .ensures .0) (c .if2 .left) ∙ l .inv .2,
     )
 
 returns-3 : tie.Need-returns-3 Inv-loop μ-loop
@@ -84,7 +97,7 @@ fold-spec =
     (tie.spec
     Inv-loop
     μ-loop
-    count-requires
+    size-requires
     loop-holds
     bits-requires
     returns

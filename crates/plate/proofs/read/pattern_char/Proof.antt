@@ -4,13 +4,14 @@ use Prim.Native.Nat.{_<_}
 use mathlib.Core.Path.{refl}
 use native.Mathlib.Omega.{arith}
 use borrow.Author.Needs.{needs}
+use Rattle.plate.specs.Plate.{mostBytes}
 use Rattle.plate.specs.Bits.{numberAt}
 use Rattle.plate.proofs.Parts.{pattern-count, rest-some, letter-ascii, letter-wide, letter-none}
 use Rattle.plate.proofs.read.pattern_char.Statement.{statement}
 use Rattle.plate.proofs.read.pattern_char.Tie as tie
 
 -- A pattern has few bytes.
-small : (c : tie.After-shared-slice-known) → c .before .args .k < 16
+small : (c : tie.After-shared-slice-known) → c .before .args .k < mostBytes
 small c =
     let a = c .before .args in
     let n = pattern-count (a .plate .now) (a .at) (c .before .pre .0) (numberAt (a .plate .now) (a .at) 5) refl in
@@ -35,22 +36,22 @@ returns c =
     let h = c .before .before .before .pre in
     letter-ascii (a .plate .now) (a .at) (h .0) (a .k) (h .1) (h .2) (c .before .bits .result) (c .before .bits .ensures .0) (c .if1 .taken)
 
-count-requires : tie.Need-count-requires
-count-requires c κs = search needs
+size-requires : tie.Need-size-requires
+size-requires c κs = search needs
 
 sub-left : tie.Need-sub-left
 sub-left c =
     let a = c .before .before .before .before .args in
     let h = c .before .before .before .before .pre in
-    let i = rest-some (a .plate .now) (a .at) (h .0) (a .k) (h .1) (h .2) (c .count .result) (c .count .ensures .0) in
+    let i = rest-some (a .plate .now) (a .at) (h .0) (a .k) (h .1) (h .2) (c .size .result) (c .size .ensures .0) in
     omega arith
 
 wide-front-requires : tie.Need-wide-front-requires
 wide-front-requires c κs =
     let a = c .before .before .before .before .args in
     let h = c .before .before .before .before .pre in
-    let i = rest-some (a .plate .now) (a .at) (h .0) (a .k) (h .1) (h .2) (c .count .result) (c .count .ensures .0) in
-    let j = c .count .ensures .1 in
+    let i = rest-some (a .plate .now) (a .at) (h .0) (a .k) (h .1) (h .2) (c .size .result) (c .size .ensures .0) in
+    let j = c .size .ensures .1 in
     let n = h .0 .near in
     (omega arith, omega arith)
 
@@ -62,16 +63,25 @@ enum-told c = search needs
 
 returns-2 : tie.Need-returns-2
 returns-2 c =
-    let a = c .before .before .before .before .before .before .before .args in
-    let h = c .before .before .before .before .before .before .before .pre in
-    absurd (letter-none (a .plate .now) (a .at) (h .0) (a .k) (h .1) (h .2) (c .before .before .before .count .result) (c .before .before .before .count .ensures .0) (c .before .before .wide-front .result) (c .before .before .wide-front .ensures) (c .enum-told .given .1))
+    let at-wide-front = c .before .before in
+    let at-size = at-wide-front .before in
+    let at-start = at-size .before .before .before .before in
+    let a = at-start .args in
+    let h = at-start .pre in
+    absurd (letter-none (a .plate .now) (a .at) (h .0) (a .k) (h .1) (h .2) (at-size .size .result) (at-size .size .ensures .0) (at-wide-front .wide-front .result)
+    (at-wide-front .wide-front .ensures) (c .enum-told .given .1))
 
 returns-3 : tie.Need-returns-3
 returns-3 c =
-    let a = c .before .before .before .before .before .before .before .before .args in
-    let h = c .before .before .before .before .before .before .before .before .pre in
-    let v = c .before .code .given in
-    letter-wide (a .plate .now) (a .at) (h .0) (a .k) (h .1) (h .2) (c .before .before .before .before .count .result) (c .before .before .before .before .count .ensures .0) (c .before .before .before .wide-front .result) (c .before .before .before .wide-front .ensures) (v .0 .0) (v .0 .1 .0) (v .1)
+    let at-code = c .before in
+    let at-wide-front = at-code .before .before in
+    let at-size = at-wide-front .before in
+    let at-start = at-size .before .before .before .before in
+    let a = at-start .args in
+    let h = at-start .pre in
+    let v = at-code .code .given in
+    letter-wide (a .plate .now) (a .at) (h .0) (a .k) (h .1) (h .2) (at-size .size .result) (at-size .size .ensures .0) (at-wide-front .wide-front .result)
+    (at-wide-front .wide-front .ensures) (v .0 .0) (v .0 .1 .0) (v .1)
 
 pub pattern-char-spec : {M : Type 1} → statement M
 pattern-char-spec =
@@ -82,7 +92,7 @@ pattern-char-spec =
     add-place-2
     bits-requires
     returns
-    count-requires
+    size-requires
     sub-left
     wide-front-requires
     enum-known-code

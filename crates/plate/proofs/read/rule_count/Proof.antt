@@ -4,11 +4,11 @@ use Rattle.plate.proofs.Facts.{all-stand}
 use Rattle.plate.proofs.read.rule_count.Statement.{statement}
 use Rattle.plate.proofs.read.rule_count.Tie as tie
 
-count-requires : tie.Need-count-requires
-count-requires c κs = search needs
+size-requires : tie.Need-size-requires
+size-requires c κs = search needs
 
 returns : tie.Need-returns
-returns c = (c .count .ensures .0, all-stand (c .before .before .args .plate .now) (c .before .before .pre) (c .count .result) (c .count .ensures .0))
+returns c = (c .size .ensures .0, all-stand (c .before .before .args .plate .now) (c .before .before .pre) (c .size .result) (c .size .ensures .0))
 
 pub rule-count-spec : {M : Type 1} → statement M
-rule-count-spec = tie.close (tie.spec count-requires returns)
+rule-count-spec = tie.close (tie.spec size-requires returns)

@@ -91,7 +91,8 @@ module _ {M : Type 1} (𝓤 : URA M) (H : Heap 𝓤) (A : Atoms 𝓤) (mem : Mem
   abbrev Behind : Contract 𝓤
   Behind = tripleOf 𝓤 H A behind.signature (behind.spec 𝓤 H A mem run)
 
-module _ {M : Type 1} (𝓤 : URA M) (H : Heap 𝓤) (A : Atoms 𝓤) (W : Given 𝓤 H A) (mem : Memory → SProp 𝓤) (run : Routine → Fun 𝓤) (κ : Lft) (q : Share) (s : RefT (List ℕ)) (n : ℕ) (fits : n < 2 ^ 64) (ok : n + 21 < 2 ^ 64) where
+module _ {M : Type 1} (𝓤 : URA M) (H : Heap 𝓤) (A : Atoms 𝓤) (W : Given 𝓤 H A) (mem : Memory → SProp 𝓤) (run : Routine → Fun 𝓤) (κ : Lft) (q : Share) (s : RefT (List ℕ))
+    (n : ℕ) (fits : n < 2 ^ 64) (ok : n + 21 < 2 ^ 64) where
   -- the machine value that s has
   abbrev v : Val
   v = sliceVal (s .ptr) (length (s .now))
@@ -127,7 +128,8 @@ module _ {M : Type 1} (𝓤 : URA M) (H : Heap 𝓤) (A : Atoms 𝓤) (W : Given
   goes-new =
       qed W ((‵ (flft κ q) ⊛ ‵ ftrue) ∷ ‵ (owns (ShrSlice (named 0) κ u8 ∷ usize ∷ []) (s, (n, tt)) at) ∷ []) ∵
       move ! (1 ∷ []) $ fsplit ! $ use1 W (‵ Own ⊛ ‵ Own) (shr-slice-copy 𝓤 H A W (named 0) κ u8 .twice s (v ∷ [])) $ split ! $
-      move ! (0 ∷ 2 ∷ []) $ fjoin ! $ move ! (2 ∷ 0 ∷ []) $ use2 W (raw (New 𝓤 H A mem run .pre to-new)) (qed W ((‵ (flft κ q) ⊛ ‵ ftrue) ∷ ‵ (owns (ShrSlice (named 0) κ u8 ∷ usize ∷ []) (s, (n, tt)) at) ∷ []) ∵ join ! $ frame ! $ done !) $ frame ! $ done !
+      move ! (0 ∷ 2 ∷ []) $ fjoin ! $ move ! (2 ∷ 0 ∷ []) $ use2 W (raw (New 𝓤 H A mem run .pre to-new))
+      (qed W ((‵ (flft κ q) ⊛ ‵ ftrue) ∷ ‵ (owns (ShrSlice (named 0) κ u8 ∷ usize ∷ []) (s, (n, tt)) at) ∷ []) ∵ join ! $ frame ! $ done !) $ frame ! $ done !
 
   new-said : (r : BitReader) → ent 𝓤 (ensured 𝓤 H A new.ended (new.clauses 𝓤 H A mem run) (κ, tt) (s, (n, tt)) tt r) (fact 𝓤 (Stands h₀ r))
   new-said r = exE 𝓤 _ (λ ws. snd∗ 𝓤 (sem 𝓤 H A (lasts new.ended (κ, tt) (s, (n, tt)) ws)) (fact 𝓤 (Stands h₀ r)))
@@ -161,11 +163,13 @@ module _ {M : Type 1} (𝓤 : URA M) (H : Heap 𝓤) (A : Atoms 𝓤) (W : Given
   exits k t fk ft ek et =
       let f : Folding = record { key = k; target = t } in
       qed W ((‵ (flft κ q) ⊛ ‵ ftrue) ∷ ‵ Own ∷ []) ∵
-      suffices ! _ (ends-at 𝓤 H A folding-at.ended stayed (folding-at.clauses 𝓤 H A mem run) W (((κ, tt), (q, tt), tt, (s, (n, tt)), at), tt) (vstruct (vcons (vint w32 k) (vcons (vint w32 t) vnil))) f (tt, (tt, tt)) (tt, (tt, tt))) $ says ! (ek, et) $
+      suffices ! _ (ends-at 𝓤 H A folding-at.ended stayed (folding-at.clauses 𝓤 H A mem run) W (((κ, tt), (q, tt), tt, (s, (n, tt)), at), tt)
+      (vstruct (vcons (vint w32 k) (vcons (vint w32 t) vnil))) f (tt, (tt, tt)) (tt, (tt, tt))) $ says ! (ek, et) $
       frame ! $ nothing ! $ owned ! usize (Is usize) (uint-makes 𝓤 H A W w64) n _ (refl, fits) $ fjoin ! $ move ! (1 ∷ 0 ∷ []) $ fjoin ! $ frame ! $
       owned ! F.the-row (Is F.the-row) (LL.makes F.the-type F′.the-plain 𝓤 H A) f _ (LL.owes F.the-type F′.the-laws f ((refl, fk), ((refl, ft), tt))) $ done !
 
-  module _ (C : Calls 𝓤 H) (Λ : Loops 𝓤 H) (fm : FmC 𝓤 H (W .laws) C) (known-new : Triple 𝓤 (C #plate·reader·new) (New 𝓤 H A mem run)) (known-bits : Triple 𝓤 (C #plate·reader·bits) (Bits 𝓤 H A mem run)) (known-behind : Triple 𝓤 (C #plate·reader·behind) (Behind 𝓤 H A mem run)) where
+  module _ (C : Calls 𝓤 H) (Λ : Loops 𝓤 H) (fm : FmC 𝓤 H (W .laws) C) (known-new : Triple 𝓤 (C #plate·reader·new) (New 𝓤 H A mem run))
+      (known-bits : Triple 𝓤 (C #plate·reader·bits) (Bits 𝓤 H A mem run)) (known-behind : Triple 𝓤 (C #plate·reader·behind) (Behind 𝓤 H A mem run)) where
     walk : Is (ShrSlice (named 0) κ u8) s (v ∷ []) → ent 𝓤 (onEntry 𝓤 H A folding-at.signature (κ, tt) (q, tt) (s, (n, tt)) at) (WpFn 𝓤 H C Λ code.function (v ∷ vint w64 n ∷ []) Post)
     walk p =
         qed W (raw (onEntry 𝓤 H A folding-at.signature (κ, tt) (q, tt) (s, (n, tt)) at) ∷ []) ∵ enter ! C Λ code.function (v ∷ vint w64 n ∷ []) _ $
@@ -174,17 +178,20 @@ module _ {M : Type 1} (𝓤 : URA M) (H : Heap 𝓤) (A : Atoms 𝓤) (W : Given
         -- `new`
         move ! (18 ∷ []) $ use1 W (raw (New 𝓤 H A mem run .pre to-new) ⊛ ‵ Own) goes-new $ split ! $
         calls-at ! fm (New 𝓤 H A mem run) known-new to-new (and-then ! (load ! (from ! (stop !)) (look ! 16 refl)) (and-then ! (load ! (from ! (stop !)) (look ! 14 refl)) (no-more !))) (λ u₀.
-        use1 W (later (some (λ (r : BitReader). ((‵ (flft κ q) ⊛ ‵ ftrue) ⊛ ‵ (B (κ, tt) .own r (u₀ ∷ []))) ⊛ raw (ensured 𝓤 H A new.ended (new.clauses 𝓤 H A mem run) (κ, tt) (s, (n, tt)) tt r)))) (id⊢ 𝓤 _) $ await ! tt $ pick ! (λ r₀.
+        use1 W (later (some (λ (r : BitReader). ((‵ (flft κ q) ⊛ ‵ ftrue) ⊛ ‵ (B (κ, tt) .own r (u₀ ∷ []))) ⊛ raw
+        (ensured 𝓤 H A new.ended (new.clauses 𝓤 H A mem run) (κ, tt) (s, (n, tt)) tt r)))) (id⊢ 𝓤 _) $ await ! tt $ pick ! (λ r₀.
         split ! $ move ! (1 ∷ []) $ use1 W (raw (fact 𝓤 (Stands h₀ r₀))) (new-said r₀) $ heard ! (Stands h₀ r₀) (λ e₀.
         split ! $ rewrite ! 1 (λ (h : BitReader). ‵ (B (κ, tt) .own h (u₀ ∷ []))) (λ i. record { bytes = e₀ .0 i; at = e₀ .1 i }) refl $ move ! (1 ∷ []) $
         -- [what the reader owns; the token; what plate owns; _8; …; _7; …; _6; …; _5; …; _4; …; room for _3; …; _2; …; _1; …; room for _0; …]
         peeks ! (B (κ, tt)) (Is (B (κ, tt))) (shows 𝓤 H A (B (κ, tt))) h₀ (u₀ ∷ []) (λ is₀. land ! (from ! (stop !)) (init ! 13 refl (typed h₀ u₀ is₀)) $
-        use1 W (‵ (B (κ, tt) .own h₀ (u₀ ∷ [])) ⊛ ‵ (B (κ, tt) .own h₀ (u₀ ∷ []))) (LL.copy (T.the-type (namedLft 1 0 tt (κ, tt))) (T′.the-copy (namedLft 1 0 tt (κ, tt))) 𝓤 H A W .twice h₀ (u₀ ∷ [])) $ split ! $
+        use1 W (‵ (B (κ, tt) .own h₀ (u₀ ∷ [])) ⊛ ‵ (B (κ, tt) .own h₀ (u₀ ∷ [])))
+        (LL.copy (T.the-type (namedLft 1 0 tt (κ, tt))) (T′.the-copy (namedLft 1 0 tt (κ, tt))) 𝓤 H A W .twice h₀ (u₀ ∷ [])) $ split ! $
         -- `bits`, of a copy
         assigns ! (of-opd ! (load ! (from ! (stop !)) (look ! 14 refl))) (from ! (stop !)) (init ! 8 refl (typed h₀ u₀ is₀)) $
         move ! (2 ∷ 0 ∷ []) $ use2 W (raw (Bits 𝓤 H A mem run .pre (to-bits h₀ u₀))) (goes-bits h₀ u₀) $
         calls-at ! fm (Bits 𝓤 H A mem run) known-bits (to-bits h₀ u₀) (and-then ! (load ! (from ! (stop !)) (look ! 7 refl)) (and-then ! (lit ! tt) (no-more !))) (λ u₁.
-        use1 W (later (some (λ (x : ℕ). ((‵ (flft κ q) ⊛ ‵ ftrue) ⊛ ‵ (u32 .own x (u₁ ∷ []))) ⊛ raw (ensured 𝓤 H A bits.ended (bits.clauses 𝓤 H A mem run) (κ, tt) (h₀, (21, tt)) tt x)))) (id⊢ 𝓤 _) $ await ! tt $ pick ! (λ k.
+        use1 W (later (some (λ (x : ℕ). ((‵ (flft κ q) ⊛ ‵ ftrue) ⊛ ‵ (u32 .own x (u₁ ∷ []))) ⊛ raw
+        (ensured 𝓤 H A bits.ended (bits.clauses 𝓤 H A mem run) (κ, tt) (h₀, (21, tt)) tt x)))) (id⊢ 𝓤 _) $ await ! tt $ pick ! (λ k.
         split ! $ move ! (1 ∷ []) $ use1 W (raw (fact 𝓤 (Read h₀ k))) (bits-said h₀ k) $ heard ! (Read h₀ k) (λ e₁. split ! $ move ! (1 ∷ []) $
         peeks ! u32 (Is u32) (shows 𝓤 H A u32) k (u₁ ∷ []) (λ is₁. land ! (from ! (stop !)) (init ! 12 refl (uint-lawful 𝓤 H A W w32 .typed k _ is₁ .0)) $
         rewrite ! 12 (λ (z : Val). ‵ (fat fullShare (tyInt w32) l₄ 0 z)) (ap only (is₁ .0)) refl $ drop ! $
@@ -192,33 +199,42 @@ module _ {M : Type 1} (𝓤 : URA M) (H : Heap 𝓤) (A : Atoms 𝓤) (W : Given
         assigns ! (of-opd ! (load ! (from ! (stop !)) (look ! 13 refl))) (from ! (stop !)) (init ! 3 refl (typed h₀ u₀ is₀)) $
         use2 W (raw (Behind 𝓤 H A mem run .pre (to-behind u₀))) (goes-behind u₀) $
         calls-at ! fm (Behind 𝓤 H A mem run) known-behind (to-behind u₀) (and-then ! (load ! (from ! (stop !)) (look ! 2 refl)) (and-then ! (lit ! tt) (no-more !))) (λ u₂.
-        use1 W (later (some (λ (r : BitReader). ((‵ (flft κ q) ⊛ ‵ ftrue) ⊛ ‵ (B (κ, tt) .own r (u₂ ∷ []))) ⊛ raw (ensured 𝓤 H A behind.ended (behind.clauses 𝓤 H A mem run) (κ, tt) (h₀, (21, tt)) tt r)))) (id⊢ 𝓤 _) $ await ! tt $ pick ! (λ r₁.
+        use1 W (later (some (λ (r : BitReader). ((‵ (flft κ q) ⊛ ‵ ftrue) ⊛ ‵ (B (κ, tt) .own r (u₂ ∷ []))) ⊛ raw
+        (ensured 𝓤 H A behind.ended (behind.clauses 𝓤 H A mem run) (κ, tt) (h₀, (21, tt)) tt r)))) (id⊢ 𝓤 _) $ await ! tt $ pick ! (λ r₁.
         split ! $ move ! (1 ∷ []) $ use1 W (raw (fact 𝓤 (Stands h₁ r₁))) (behind-said r₁) $ heard ! (Stands h₁ r₁) (λ e₂.
         split ! $ rewrite ! 1 (λ (h : BitReader). ‵ (B (κ, tt) .own h (u₂ ∷ []))) (λ i. record { bytes = e₂ .0 i; at = e₂ .1 i }) refl $ move ! (1 ∷ []) $
         peeks ! (B (κ, tt)) (Is (B (κ, tt))) (shows 𝓤 H A (B (κ, tt))) h₁ (u₂ ∷ []) (λ is₂. land ! (from ! (stop !)) (init ! 5 refl (typed h₁ u₂ is₂)) $
         -- `bits` behind the key
         move ! (1 ∷ 0 ∷ []) $ use2 W (raw (Bits 𝓤 H A mem run .pre (to-bits h₁ u₂))) (goes-bits h₁ u₂) $
         calls-at ! fm (Bits 𝓤 H A mem run) known-bits (to-bits h₁ u₂) (and-then ! (load ! (from ! (stop !)) (look ! 4 refl)) (and-then ! (lit ! tt) (no-more !))) (λ u₃.
-        use1 W (later (some (λ (x : ℕ). ((‵ (flft κ q) ⊛ ‵ ftrue) ⊛ ‵ (u32 .own x (u₃ ∷ []))) ⊛ raw (ensured 𝓤 H A bits.ended (bits.clauses 𝓤 H A mem run) (κ, tt) (h₁, (21, tt)) tt x)))) (id⊢ 𝓤 _) $ await ! tt $ pick ! (λ t.
+        use1 W (later (some (λ (x : ℕ). ((‵ (flft κ q) ⊛ ‵ ftrue) ⊛ ‵ (u32 .own x (u₃ ∷ []))) ⊛ raw
+        (ensured 𝓤 H A bits.ended (bits.clauses 𝓤 H A mem run) (κ, tt) (h₁, (21, tt)) tt x)))) (id⊢ 𝓤 _) $ await ! tt $ pick ! (λ t.
         split ! $ move ! (1 ∷ []) $ use1 W (raw (fact 𝓤 (Read h₁ t))) (bits-said h₁ t) $ heard ! (Read h₁ t) (λ e₃. split ! $ move ! (1 ∷ []) $
         peeks ! u32 (Is u32) (shows 𝓤 H A u32) t (u₃ ∷ []) (λ is₃. land ! (from ! (stop !)) (init ! 9 refl (uint-lawful 𝓤 H A W w32 .typed t _ is₃ .0)) $
         rewrite ! 9 (λ (z : Val). ‵ (fat fullShare (tyInt w32) l₅ 0 z)) (ap only (is₃ .0)) refl $ drop ! $
         -- [the token; what plate owns; _8; …; _7; …; _6; …; _5; …; _4; …; _3; …; _2; …; _1; …; room for _0; …]
-        assigns ! (agg ! (and-then ! (load ! (from ! (stop !)) (look ! 10 refl)) (and-then ! (load ! (from ! (stop !)) (look ! 8 refl)) (no-more !)))) (from ! (stop !)) (init ! 18 refl (tt, (record { fits = is₁ .1 }, (record { fits = is₃ .1 }, tt)))) $
-        returns ! (look ! 18 refl) $ forget ! 2 refl $ forget ! 4 refl $ forget ! 6 refl $ forget ! 8 refl $ forget ! 10 refl $ forget ! 12 refl $ forget ! 14 refl $ forget ! 16 refl $ forget ! 18 refl $
-        move ! (18 ∷ 19 ∷ []) $ free1 ! $ move ! (16 ∷ 17 ∷ []) $ free1 ! $ move ! (14 ∷ 15 ∷ []) $ free1 ! $ move ! (12 ∷ 13 ∷ []) $ free1 ! $ move ! (10 ∷ 11 ∷ []) $ free1 ! $ move ! (8 ∷ 9 ∷ []) $ free1 ! $ move ! (6 ∷ 7 ∷ []) $ free1 ! $ move ! (4 ∷ 5 ∷ []) $ free1 ! $ move ! (2 ∷ 3 ∷ []) $ free1 ! $ free0 ! $ by ! (exits k t (is₁ .1) (is₃ .1) (e₁ .0) (e₃ .0)))))))))))))))))))))))))))
+        assigns ! (agg ! (and-then ! (load ! (from ! (stop !)) (look ! 10 refl)) (and-then ! (load ! (from ! (stop !)) (look ! 8 refl)) (no-more !)))) (from ! (stop !))
+        (init ! 18 refl (tt, (record { fits = is₁ .1 }, (record { fits = is₃ .1 }, tt)))) $
+        returns ! (look ! 18 refl) $ forget ! 2 refl $ forget ! 4 refl $ forget ! 6 refl $ forget ! 8 refl $ forget ! 10 refl $ forget ! 12 refl $ forget ! 14 refl $
+        forget ! 16 refl $ forget ! 18 refl $
+        move ! (18 ∷ 19 ∷ []) $ free1 ! $ move ! (16 ∷ 17 ∷ []) $ free1 ! $ move ! (14 ∷ 15 ∷ []) $ free1 ! $ move ! (12 ∷ 13 ∷ []) $ free1 ! $ move ! (10 ∷ 11 ∷ []) $
+        free1 ! $ move ! (8 ∷ 9 ∷ []) $ free1 ! $ move ! (6 ∷ 7 ∷ []) $ free1 ! $ move ! (4 ∷ 5 ∷ []) $ free1 ! $ move ! (2 ∷ 3 ∷ []) $ free1 ! $ free0 ! $
+        by ! (exits k t (is₁ .1) (is₃ .1) (e₁ .0) (e₃ .0)))))))))))))))))))))))))))
 
 module _ {M : Type 1} (𝓤 : URA M) (H : Heap 𝓤) (A : Atoms 𝓤) (W : Given 𝓤 H A) (mem : Memory → SProp 𝓤) (run : Routine → Fun 𝓤) where
-  folding-at-walks : (C : Calls 𝓤 H) (Λ : Loops 𝓤 H) → FmC 𝓤 H (W .laws) C → Triple 𝓤 (C #plate·reader·new) (New 𝓤 H A mem run) → Triple 𝓤 (C #plate·reader·bits) (Bits 𝓤 H A mem run) → Triple 𝓤 (C #plate·reader·behind) (Behind 𝓤 H A mem run)
+  folding-at-walks : (C : Calls 𝓤 H) (Λ : Loops 𝓤 H) → FmC 𝓤 H (W .laws) C → Triple 𝓤 (C #plate·reader·new) (New 𝓤 H A mem run) → Triple 𝓤 (C #plate·reader·bits)
+      (Bits 𝓤 H A mem run) → Triple 𝓤 (C #plate·reader·behind) (Behind 𝓤 H A mem run)
       → Walks 𝓤 H A folding-at.ended stayed (WpFn 𝓤 H C Λ code.function) (folding-at.clauses 𝓤 H A mem run)
-  folding-at-walks C Λ fm known-new known-bits known-behind = walked 𝓤 H A folding-at.ended stayed (folding-at.clauses 𝓤 H A mem run) (WpFn 𝓤 H C Λ code.function) (λ κs. (slice-vals, (uint-vals w64, tt))) (λ κs. (shr-slice-tells (named 0) (κs .0) u8, (uint-tells w64, tt)))
+  folding-at-walks C Λ fm known-new known-bits known-behind = walked 𝓤 H A folding-at.ended stayed (folding-at.clauses 𝓤 H A mem run) (WpFn 𝓤 H C Λ code.function)
+      (λ κs. (slice-vals, (uint-vals w64, tt))) (λ κs. (shr-slice-tells (named 0) (κs .0) u8, (uint-tells w64, tt)))
       (λ κs qs bounds a g are. needs 𝓤 _ _ (λ ok. walk 𝓤 H A W mem run (κs .0) (qs .0) (a .0) (a .1 .0) (are .1 .0 .1) ok C Λ fm known-new known-bits known-behind (are .0)))
 
 folding-at-meets : {M : Type 1} (𝓤 : URA M) (H : Heap 𝓤) (A : Atoms 𝓤) (W : Given 𝓤 H A) (mem : Memory → SProp 𝓤) (run : Routine → Fun 𝓤) (𝓣 : Tables 𝓤 H)
     → Triple 𝓤 (𝓣 .C #plate·reader·new) (New 𝓤 H A mem run) → Triple 𝓤 (𝓣 .C #plate·reader·bits) (Bits 𝓤 H A mem run) → Triple 𝓤 (𝓣 .C #plate·reader·behind) (Behind 𝓤 H A mem run)
     → Meets 𝓤 H A folding-at.signature (WpFn 𝓤 H (𝓣 .C) (𝓣 .Λ) code.function) (folding-at.spec 𝓤 H A mem run)
 folding-at-meets 𝓤 H A W mem run 𝓣 known-new known-bits known-behind =
-    walk-meets 𝓤 H A folding-at.ended stayed W (goes-none-slice 𝓤 H A W 1 (0 ∷ []) tt (plain (λ _. u8)) yes, (goes-none 𝓤 H A W 1 (λ _. usize) yes (λ κs x f. refl), tt)) (folding-at.clauses 𝓤 H A mem run)
+    walk-meets 𝓤 H A folding-at.ended stayed W (goes-none-slice 𝓤 H A W 1 (0 ∷ []) tt (plain (λ _. u8)) yes, (goes-none 𝓤 H A W 1 (λ _. usize) yes (λ κs x f. refl), tt))
+    (folding-at.clauses 𝓤 H A mem run)
     (WpFn 𝓤 H (𝓣 .C) (𝓣 .Λ) code.function) (WpFn-mono 𝓤 H (W .laws) 𝓣 code.function) (folding-at-walks 𝓤 H A W mem run (𝓣 .C) (𝓣 .Λ) (fmOf 𝓤 H (W .laws) 𝓣) known-new known-bits known-behind)
 
 pub folding-at-spec : {M : Type 1} → stated.statement M

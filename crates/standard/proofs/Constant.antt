@@ -7,7 +7,8 @@ use mathlib.Core.List.{List, [], _∷_}
 use Rattle.laws.specs.Lists.{same, splitAt}
 use Rattle.laws.proofs.Same.{same-equal}
 use Rattle.chars.specs.Utf8.{textFrom}
-use Rattle.rule_text.specs.Forms.{entry, quadruplet, folding, multilineComment, endOfLine, ending, comment, blanks, until, count, later, pairAt, lineAt, part, plain, escaped, partAt, letterAt, closing}
+use Rattle.rule_text.specs.Forms.{entry, quadruplet, folding, multilineComment, endOfLine, ending, comment, blanks, until, count, later, pairAt, lineAt, part, plain}
+use Rattle.rule_text.specs.Forms.{escaped, partAt, letterAt, closing}
 use Rattle.rule_text.specs.Items.{itemsFrom}
 use Rattle.plate.specs.Bits.{bit, numberAt}
 use Rattle.plate.specs.Plate.{edition1}
@@ -15,8 +16,8 @@ use Rattle.plate.specs.Read.{acceptedIn}
 use Rattle.builder.specs.Build.{verdict, buildAnswer}
 use Rattle.standard.specs.Plate.{standard}
 
-abbrev pub held : List ℕ
-held =
+abbrev pub constant : List ℕ
+constant =
     0x01 ∷ 0x1f ∷ 0x17 ∷ 0xa0 ∷ 0x00 ∷ 0x06 ∷ 0xf8 ∷ 0x00 ∷ 0x1c ∷ 0xc0 ∷ 0x01 ∷ 0xc0 ∷ 0x00 ∷ 0x06 ∷ 0x10 ∷ 0x00 ∷ 0x70 ∷ 0x80 ∷ 0x01 ∷ 0x84
     ∷ 0x00 ∷ 0x1c ∷ 0x40 ∷ 0x00 ∷ 0x61 ∷ 0x00 ∷ 0x07 ∷ 0x18 ∷ 0x00 ∷ 0x18 ∷ 0x40 ∷ 0x01 ∷ 0xc8 ∷ 0x00 ∷ 0x06 ∷ 0x10 ∷ 0x00 ∷ 0x72 ∷ 0x80 ∷ 0x01
     ∷ 0x84 ∷ 0x00 ∷ 0x1c ∷ 0xc0 ∷ 0x00 ∷ 0x61 ∷ 0x00 ∷ 0x07 ∷ 0x38 ∷ 0x00 ∷ 0x18 ∷ 0xc0 ∷ 0x01 ∷ 0xd0 ∷ 0x00 ∷ 0x06 ∷ 0x50 ∷ 0x00 ∷ 0x74 ∷ 0x80
@@ -91,13 +92,14 @@ held =
     ∷ []
 
 -- The text is read, sorted and written by computation; compared byte by byte.
-computed : same held standard ≡ true
-unfolding textFrom standard buildAnswer verdict splitAt entry quadruplet folding multilineComment endOfLine ending comment blanks until count later pairAt lineAt part plain escaped partAt letterAt closing itemsFrom
+computed : same constant standard ≡ true
+unfolding textFrom standard buildAnswer verdict splitAt entry quadruplet folding multilineComment endOfLine ending comment blanks until count later pairAt lineAt part
+    plain escaped partAt letterAt closing itemsFrom
 computed = refl
 
-pub held-built : held ≡ standard
-held-built = same-equal held standard computed
+pub constant-built : constant ≡ standard
+constant-built = same-equal constant standard computed
 
-pub held-accepted : acceptedIn edition1 held ≡ true
+pub constant-accepted : acceptedIn edition1 constant ≡ true
 unfolding textFrom bit numberAt
-held-accepted = refl
+constant-accepted = refl
