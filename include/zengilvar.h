@@ -90,10 +90,12 @@ typedef struct {
     uint64_t length;
 } dm_built;
 
-/* number: as above. count: how many codes were written, 0 if refused. */
+/* number: as above. count: how many codes were written, 0 if refused. place: with 2 the byte of the name, from 0, at which the first
+ * sequence begins that is not UTF-8, with 11 that of the first character that is not allowed, else 0. */
 typedef struct {
     uint64_t number;
     uint64_t count;
+    uint64_t place;
 } dm_coded;
 
 /* Rule text to a plate, which the others read. `folding`: whether names are folded by the text's foldings. */

@@ -34,8 +34,12 @@ void build_refused(const char *text, size_t text_len, size_t room, uint64_t numb
 /* A name's answer under S in a buffer of `room` bytes: the codes, or a refusal where they are null. */
 void coded(coder *call, const char *name, size_t name_len, size_t room, const char *codes, uint64_t number);
 
+/* The same of a name whose fault begins at this byte. */
+void refused_at(coder *call, const char *name, size_t name_len, uint64_t number, uint64_t place);
+
 void examples(void);
 void refusals(void);
+void places(void);
 void limits(void);
 void plates(void);
 void words(void);

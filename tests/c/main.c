@@ -53,21 +53,30 @@ void build_refused(const char *text, size_t text_len, size_t room, uint64_t numb
     expect(painted(out + r.length, sizeof out - r.length), "bytes behind", shown);
 }
 
-void coded(coder *call, const char *name, size_t name_len, size_t room, const char *codes, uint64_t number) {
+static void answered(coder *call, const char *name, size_t name_len, size_t room, const char *codes, uint64_t number, uint64_t place) {
     uint8_t out[1024];
     memset(out, PAINT, sizeof out);
     dm_coded r = call(plate, plate_len, bytes(name), name_len, out, room);
     size_t length = codes == NULL ? 0 : strlen(codes);
-    expect(r.number == number, "number", name);
+    expect(r.number == number && r.place == place, "number and place", name);
     expect(r.count == (length + 1) / DM_CODE_STEP, "count", name);
     expect(length == 0 || memcmp(out, codes, length) == 0, "codes", name);
     expect(painted(out + length, sizeof out - length), "bytes behind the codes", name);
+}
+
+void coded(coder *call, const char *name, size_t name_len, size_t room, const char *codes, uint64_t number) {
+    answered(call, name, name_len, room, codes, number, 0);
+}
+
+void refused_at(coder *call, const char *name, size_t name_len, uint64_t number, uint64_t place) {
+    answered(call, name, name_len, DM_LIST_MOST, NULL, number, place);
 }
 
 int main(void) {
     plate_len = build(S, true, plate);
     examples();
     refusals();
+    places();
     limits();
     plates();
     words();

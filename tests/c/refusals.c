@@ -12,8 +12,8 @@ static void of_build(void) {
 }
 
 static void of_names(void) {
-    coded(dm_encode, "r\xFF", 2, DM_LIST_MOST, NULL, DM_NOT_TEXT);
-    coded(dm_list, "r\xFF", 2, DM_LIST_MOST, NULL, DM_NOT_TEXT);
+    refused_at(dm_encode, "r\xFF", 2, DM_NOT_TEXT, 1);
+    refused_at(dm_list, "r\xFF", 2, DM_NOT_TEXT, 1);
     coded(dm_list, "Rosochowaciec", 13, 55, "944744|944745|944754|944755|945744|945745|945754|945755", DM_ANSWERED);
     coded(dm_list, "Rosochowaciec", 13, 54, NULL, DM_ROOM_TOO_SMALL);
     coded(dm_list, "cacacacacacaca", 14, DM_LIST_MOST, NULL, DM_ROOM_TOO_SMALL);

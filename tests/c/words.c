@@ -26,5 +26,5 @@ void words(void) {
     snprintf(version, sizeof version, "%d.%d.%d", DM_VERSION_MAJOR, DM_VERSION_MINOR, DM_VERSION_PATCH);
     expect(strcmp(version, DM_VERSION) == 0, "version", DM_VERSION);
     expect(sizeof(dm_built) == 24 && offsetof(dm_built, line) == 8 && offsetof(dm_built, length) == 16, "layout", "dm_built");
-    expect(sizeof(dm_coded) == 16 && offsetof(dm_coded, count) == 8, "layout", "dm_coded");
+    expect(sizeof(dm_coded) == 24 && offsetof(dm_coded, count) == 8 && offsetof(dm_coded, place) == 16, "layout", "dm_coded");
 }

@@ -13,7 +13,7 @@ use lib.Seq.{drop-drop}
 use Rattle.laws.specs.Lists.{some}
 use Rattle.laws.proofs.Tests.{by-test, or-false, or-assoc}
 use Rattle.laws.proofs.Lists.{some-append}
-use Rattle.chars.specs.Utf8.{bytesOf, charOf, isText, textFrom, soundFrom}
+use Rattle.chars.specs.Utf8.{bytesOf, charOf, isText, textFrom, soundFrom, badPlace}
 use Rattle.chars.specs.Answers.{isZero, checked}
 use Rattle.chars.specs.declared.Char.{Char}
 use Rattle.chars.specs.declared.Char.the-variants.{One, Bad, End}
@@ -24,7 +24,7 @@ use Rattle.chars.proofs.Exact.{Front, front-one, decoded-one}
 
 -- What an answer says of the bytes.
 abbrev pub Says : List ℕ → Checked → Type 0
-Says s (BadAt p) = (isText s ≡ false) × (p ≡ soundFrom 0 s)
+Says s (BadAt p) = (isText s ≡ false) × (p ≡ badPlace s)
 Says s (Text holds) = (isText s ≡ true) × (holds ≡ some isZero s)
 
 -- Each answer says whether the bytes are UTF-8, and where they are not, or whether a zero byte stands among them.
@@ -38,11 +38,11 @@ worked = (refl, refl, refl, refl)
 
 -- The same as `checked`, of the bytes from a place on; `holds` says whether a zero byte stood before it.
 abbrev pub checkedFrom : ℕ → Bool → List ℕ → Checked
-checkedFrom at holds s = cond (isText s) (Text (holds || some isZero s)) (BadAt (at + soundFrom 0 s))
+checkedFrom at holds s = cond (isText s) (Text (holds || some isZero s)) (BadAt (at + badPlace s))
 
 -- At the start it is the whole check.
 pub start : (s : List ℕ) → checkedFrom 0 false s ≡ checked s
-start s = ap (λ (n : ℕ). cond (isText s) (Text (some isZero s)) (BadAt n)) (zero-add (soundFrom 0 s))
+start s = ap (λ (n : ℕ). cond (isText s) (Text (some isZero s)) (BadAt n)) (zero-add (badPlace s))
 
 -- ---- what a character in front says
 
@@ -75,7 +75,8 @@ sound-skip zero s h = sym (zero-add (soundFrom 0 s))
 sound-skip (suc k) [] h = absurd (omega arith)
 sound-skip (suc k) (x ∷ xs) h = ap suc (sound-skip k xs (omega arith)) ∙ sym (suc-add k (soundFrom 0 (drop k xs)))
 
-sound-front : (s : List ℕ) (c w : ℕ) → charOf s ≡ One c w → 1 ≤ w → w ≤ length s → soundFrom 0 s ≡ w + soundFrom 0 (drop w s)
+-- Behind a character the bad sequence is as far as it was.
+pub sound-front : (s : List ℕ) (c w : ℕ) → charOf s ≡ One c w → 1 ≤ w → w ≤ length s → badPlace s ≡ w + badPlace (drop w s)
 unfolding soundFrom
 sound-front [] c w e h n = absurd (omega (arith, ap kind e))
 sound-front (x ∷ xs) c zero e h n = absurd (omega arith)
@@ -86,7 +87,7 @@ passed : (at : ℕ) (holds : Bool) (s : List ℕ) (c w : ℕ) → charOf s ≡ O
 passed at holds s c w e h n =
     λ i. cond (sym (text-front s c w e h) i)
     (Text ((or-assoc holds (isZero c) (some isZero (drop w s)) ∙ ap (λ (t : Bool). holds || t) (sym (zero-front s c w e))) i))
-    (BadAt ((add-assoc at w (soundFrom 0 (drop w s)) ∙ ap (λ (m : ℕ). at + m) (sym (sound-front s c w e h n))) i))
+    (BadAt ((add-assoc at w (badPlace (drop w s)) ∙ ap (λ (m : ℕ). at + m) (sym (sound-front s c w e h n))) i))
 
 bad : (at : ℕ) (holds : Bool) (s : List ℕ) → charOf s ≡ Bad → BadAt at ≡ checkedFrom at holds s
 unfolding textFrom soundFrom

@@ -7,3 +7,4 @@ pub mod Vowels
 pub mod Lowering
 pub mod Only
 pub mod Splits
+pub mod Faults

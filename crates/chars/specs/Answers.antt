@@ -6,7 +6,7 @@ use mathlib.Core.Bool.{Bool, true, false, cond}
 use mathlib.Core.List.{List}
 use lib.Dec.{eqb}
 use Rattle.laws.specs.Lists.{some}
-use Rattle.chars.specs.Utf8.{scalar, isText, soundFrom}
+use Rattle.chars.specs.Utf8.{scalar, isText, badPlace}
 use Rattle.chars.specs.Letters.{vowel}
 use Rattle.chars.specs.declared.Char.{Char}
 use Rattle.chars.specs.declared.Char.the-variants.{One, Bad, End}
@@ -27,7 +27,7 @@ isZero b = eqb b 0
 -- 01: refusal 2 is for what is "not UTF-8, or rule text holds a zero byte". The place of the first sequence that is not UTF-8; where there is none,
 -- whether some byte is zero.
 abbrev pub checked : List ℕ → Checked
-checked s = cond (isText s) (Text (some isZero s)) (BadAt (soundFrom 0 s))
+checked s = cond (isText s) (Text (some isZero s)) (BadAt (badPlace s))
 
 -- 01: "`is_vowel` (a none answers no)".
 abbrev pub vowelNext : Next → Bool

@@ -9,6 +9,7 @@ use Prim.Native.Nat.{ℕ, zero, suc, _+_, _-_, _*_, _/_, _%_}
 use mathlib.Core.Bool.{Bool, true, false, cond, _&&_, _||_}
 use mathlib.Core.List.{List, [], _∷_}
 use lib.Dec.{leb}
+use lib.ListN.{length}
 use Rattle.laws.specs.Lists.{between, cat}
 use Rattle.chars.specs.declared.Char.{Char}
 use Rattle.chars.specs.declared.Char.the-variants.{One, Bad, End}
@@ -100,8 +101,23 @@ isText s = textFrom 0 s
 abbrev pub charsOf : List ℕ → List ℕ
 charsOf s = charsFrom 0 s
 
--- How many bytes stand before the first sequence that is not UTF-8; all of them where there is none.
+-- ---- the place of a fault
+
+-- those in front that pass a test
+abbrev pub leading : (ℕ → Bool) → List ℕ → List ℕ
+leading t [] = []
+leading t (x ∷ xs) = cond (t x) (x ∷ leading t xs) []
+
+-- How many bytes stand before the first sequence that is not UTF-8, k bytes of the character before being still to pass; all of them where there is none.
 unfoldable pub soundFrom : ℕ → List ℕ → ℕ
 soundFrom k [] = 0
 soundFrom (suc k) (x ∷ xs) = suc (soundFrom k xs)
 soundFrom zero (x ∷ xs) = let c = charOf (x ∷ xs) in cond (isOne c) (suc (soundFrom (widthOf c - 1) xs)) 0
+
+-- 02, M-101: "the first byte of the earliest sequence that is not UTF-8, also when the name simply ends too soon".
+abbrev pub badPlace : List ℕ → ℕ
+badPlace s = soundFrom 0 s
+
+-- the first byte of the first character that fails a test: how many bytes the characters before it take
+abbrev pub failPlace : (ℕ → Bool) → List ℕ → ℕ
+failPlace t s = length (bytesOfAll (leading t (charsOf s)))

@@ -1,11 +1,11 @@
--- Each kind of ill-formed bytes, and characters of each width, by computation. Assumes nothing.
+-- Each kind of ill-formed bytes, characters of each width, and the places of faults, by computation. Assumes nothing.
 use Prim.Native.Nat.{ℕ}
 use mathlib.Core.Bool.{Bool, _&&_, not}
 use mathlib.Core.List.{List, [], _∷_}
-use lib.Dec.{T}
+use lib.Dec.{T, eqb, ltb}
 use lib.ListN.{drop}
 use Rattle.laws.specs.Lists.{every, same}
-use Rattle.chars.specs.Utf8.{textFrom, isText, charsFrom, charsOf}
+use Rattle.chars.specs.Utf8.{textFrom, isText, charsFrom, charsOf, soundFrom, badPlace, failPlace}
 use Rattle.chars.specs.Quoted.{bytes}
 
 -- bytes that are not UTF-8
@@ -38,8 +38,18 @@ edgeBytes =
 abbrev quoted : List ℕ
 quoted = 0x61 ∷ 0xC3 ∷ 0x80 ∷ 0xE2 ∷ 0x82 ∷ 0xAC ∷ 0xF0 ∷ 0x9F ∷ 0x98 ∷ 0x80 ∷ []
 
+-- bytes that begin with a whole character, and where the sequence begins that is not UTF-8: not at the byte that breaks it, and not counted in characters
+abbrev begun : Bool
+begun =
+    eqb (badPlace (0x61 ∷ 0xE2 ∷ 0x82 ∷ 0x61 ∷ [])) 1 && eqb (badPlace (0xC6 ∷ 0x80 ∷ 0xFF ∷ [])) 2
+    && eqb (badPlace (0x72 ∷ 0x72 ∷ 0xED ∷ 0xA0 ∷ 0x80 ∷ [])) 2 && eqb (badPlace (0xE2 ∷ 0x82 ∷ 0xAC ∷ 0xC3 ∷ [])) 3
+
+-- where the first character from U+0180 on begins
+abbrev foreign : Bool
+foreign = eqb (failPlace (λ c. ltb c 0x180) (bytes "abƀ")) 2 && eqb (failPlace (λ c. ltb c 0x180) (bytes "éƀaж")) 2
+
 -- What is ill-formed is refused, what is well-formed is read; and no other character, and no other byte, for any of them.
 pub worked : T (every refused bad && isText edgeBytes && same (charsOf edgeBytes) edges && same (bytes "aÀ€😀") quoted
-    && not (same (charsOf edgeBytes) (0x01 ∷ drop 1 edges)) && not (same (charsOf edgeBytes) (drop 1 edges)) && not (same (bytes "aÀ€😁") quoted))
-unfolding textFrom charsFrom
+    && not (same (charsOf edgeBytes) (0x01 ∷ drop 1 edges)) && not (same (charsOf edgeBytes) (drop 1 edges)) && not (same (bytes "aÀ€😁") quoted) && begun && foreign)
+unfolding textFrom charsFrom soundFrom
 worked = tt

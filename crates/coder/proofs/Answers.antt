@@ -9,7 +9,7 @@ use lib.Dec.{ltb}
 use lib.ListN.{length, length-map}
 use Rattle.laws.specs.Lists.{every, same}
 use Rattle.laws.specs.Once.{once}
-use Rattle.chars.specs.Utf8.{isText, charsOf}
+use Rattle.chars.specs.Utf8.{isText, charsOf, badPlace, failPlace}
 use Rattle.plate.specs.Plate.{Plate, edition1}
 use Rattle.plate.specs.Read.{plateAt, acceptedIn}
 use Rattle.branches.specs.Branches.{Branch, Use, start, run, over, code, codes}
@@ -57,10 +57,10 @@ module _ (us : List Use) (lent : List ℕ) (n : ℕ) (e : n ≡ smaller 64 ((len
   within g = subst (λ (l : List Branch). length l ≤ n) (sym (says .1 g)) (run-fits n us start (says .0 ∙ g))
 
   pub all-listed : o ≡ false → (cs : List (List ℕ)) → cs ≡ once same (map code bs) → (k : ℕ) (buffer : List ℕ) → length cs ≡ k → buffer ≡ listing cs lent .buffer
-      → record { number = 0; count = k; buffer = buffer } ≡ listed us lent
+      → record { number = 0; count = k; place = 0; buffer = buffer } ≡ listed us lent
   all-listed g cs e k buffer j l =
       sym (by-room false g ∙ ap (λ (x : List (List ℕ)). listing x lent) (ap (λ (x : List Branch). once same (map code x)) (sym (says .1 g)) ∙ sym e)
-      ∙ (λ y. record { number = 0; count = j y; buffer = sym l y }))
+      ∙ (λ y. record { number = 0; count = j y; place = 0; buffer = sym l y }))
 
 -- ---- list and encode
 
@@ -68,9 +68,9 @@ module _ (us : List Use) (lent : List ℕ) (n : ℕ) (e : n ≡ smaller 64 ((len
 pub by-name : (call : List Use → List ℕ → Coded) (p : Plate) (name lent : List ℕ) (n : Named) → n ≡ named p name → answered call (p .rules) n lent ≡ codedBy call p name lent
 by-name call p name lent n e = ap (λ (x : Named). answered call (p .rules) x lent) e
 
--- `named`, by the outcomes of its tests
-abbrev pub judged : Bool → Bool → Bool → List ℕ → Named
-judged long text fine cs = cond long (Refused 1) (cond text (cond fine (Chars cs) (Refused 11)) (Refused 2))
+-- `named`, by the outcomes of its tests; `foreign` and `broken` are the places of 11 and 2
+abbrev pub judged : Bool → Bool → Bool → ℕ → ℕ → List ℕ → Named
+judged long text fine foreign broken cs = cond long (Refused 1 0) (cond text (cond fine (Chars cs) (Refused 11 foreign)) (Refused 2 broken))
 
 module _ (most : ℕ) (s name lent : List ℕ) where
   pub no-plate : acceptedIn edition1 s ≡ false → codeAnswer most s name lent ≡ noCodes 10 lent
@@ -95,8 +95,8 @@ module _ (s name lent : List ℕ) where
   same-call most call h = go (acceptedIn edition1 s) h
     where
       by-name : (long text fine : Bool) → listedTo most used lent ≡ call used lent
-          → answered (listedTo most) (plate .rules) (judged long text fine (prepared plate name)) lent
-          ≡ answered call (plate .rules) (judged long text fine (prepared plate name)) lent
+          → answered (listedTo most) (plate .rules) (judged long text fine (failPlace allowed name) (badPlace name) (prepared plate name)) lent
+          ≡ answered call (plate .rules) (judged long text fine (failPlace allowed name) (badPlace name) (prepared plate name)) lent
       by-name true text fine e = refl
       by-name false true true e = e
       by-name false true false e = refl

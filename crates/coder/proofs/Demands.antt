@@ -11,7 +11,7 @@ use lib.Dec.{ltb, leb}
 use lib.ListN.{length}
 use Rattle.laws.specs.Lists.{every}
 use Rattle.laws.proofs.Tests.{and-true, by-test, between-true}
-use Rattle.chars.specs.Utf8.{isText, charsOf}
+use Rattle.chars.specs.Utf8.{isText, charsOf, badPlace, failPlace}
 use Rattle.plate.specs.Plate.{Plate, edition1, goodRule, ordered}
 use Rattle.plate.specs.Read.{plateAt, acceptedIn, readPlate}
 use Rattle.branches.specs.Branches.{Use, start, over, codes}
@@ -32,7 +32,7 @@ use Rattle.coder.proofs.Answers.{judged}
 coded-chars : (call : List Use → List ℕ → Coded) (p : Plate) (name lent : List ℕ) → codedBy call p name lent .number ≡ 0 → named p name ≡ Chars (prepared p name)
 coded-chars call p name lent e = go (ltb 256 (length name)) (isText name) (every allowed (charsOf name)) e
   where
-    go : (long text fine : Bool) → answered call (p .rules) (judged long text fine (prepared p name)) lent .number ≡ 0 → judged long text fine (prepared p name) ≡ Chars (prepared p name)
+    go : (long text fine : Bool) → answered call (p .rules) (judged long text fine (failPlace allowed name) (badPlace name) (prepared p name)) lent .number ≡ 0 → judged long text fine (failPlace allowed name) (badPlace name) (prepared p name) ≡ Chars (prepared p name)
     go true text fine e = absurd (omega arith)
     go false true true e = refl
     go false true false e = absurd (omega arith)

@@ -1,5 +1,6 @@
 -- What encode and list answer. 01, "Numbers that come back": "Encode and list check 10, 1, 2, 11, 12. [..] Encode and list answer number and count of
--- codes, 0 on refusal. [..] After success the bytes behind the result are as lent; after refusal all are." Assumes nothing.
+-- codes, 0 on refusal. [..] After success the bytes behind the result are as lent; after refusal all are." 02, M-101: "refusals 2 and 11 of encode and list
+-- return that place, all other answers return 0." Assumes nothing.
 use Prim.Native.Nat.{ℕ, _+_, _/_}
 use mathlib.Core.Bool.{cond}
 use mathlib.Core.Option.{Option, none, some}
@@ -17,11 +18,16 @@ use Rattle.coder.specs.Walk.{uses}
 pub record Coded : Type 0 where
   pub number : ℕ
   pub count : ℕ
+  pub place : ℕ
   pub buffer : List ℕ
 
--- a refusal by its number
+-- a refusal by its number and the place of the fault in the name
+abbrev pub noCodesAt : ℕ → ℕ → List ℕ → Coded
+noCodesAt number place lent = record { number = number; count = 0; place = place; buffer = lent }
+
+-- a refusal that has no place
 abbrev pub noCodes : ℕ → List ℕ → Coded
-noCodes number lent = record { number = number; count = 0; buffer = lent }
+noCodes number lent = noCodesAt number 0 lent
 
 -- "Codes are joined by `|`"
 unfoldable pub joined : List (List ℕ) → List ℕ
@@ -30,7 +36,7 @@ joined (c ∷ []) = c
 joined (c ∷ d ∷ more) = c ++ (124 ∷ joined (d ∷ more))
 
 abbrev pub listing : List (List ℕ) → List ℕ → Coded
-listing cs lent = record { number = 0; count = length cs; buffer = joined cs ++ drop (length (joined cs)) lent }
+listing cs lent = record { number = 0; count = length cs; place = 0; buffer = joined cs ++ drop (length (joined cs)) lent }
 
 -- "Room is the smaller of 64 and (buffer length + 1) divided by 7, rounded down."
 abbrev pub smaller : ℕ → ℕ → ℕ
@@ -49,7 +55,7 @@ encoded us lent = cond (ltb (length lent) 6) (noCodes 12 lent) (listing (codes (
 
 -- a name that is refused, or the call for the uses along its characters
 abbrev pub answered : (List Use → List ℕ → Coded) → List Rule → Named → List ℕ → Coded
-answered call rs (Refused number) lent = noCodes number lent
+answered call rs (Refused number place) lent = noCodesAt number place lent
 answered call rs (Chars cs) lent = call (uses rs cs) lent
 
 -- by a plate

@@ -1,11 +1,12 @@
 -- What the code of this crate holds and answers, in the words of the definitions: a name prepared, what the search finds, the next use, all branches.
 -- Assumes nothing.
-use Prim.Native.Nat.{ℕ, _<_, _≤_}
+use Prim.Native.Nat.{ℕ, _+_, _<_, _≤_}
 use mathlib.Core.Path.{_≡_}
 use mathlib.Core.Bool.{Bool, true, false, cond}
 use mathlib.Core.Option.{Option, none, some}
 use mathlib.Core.List.{List, [], _∷_, map}
 use lib.ListN.{length, take, drop}
+use Rattle.chars.specs.Utf8.{isText, badPlace}
 use Rattle.plate.specs.Plate.{Rule, Plate}
 use Rattle.plate.specs.Read.{ruleAt}
 use Rattle.plate.specs.Stands.{Here}
@@ -28,12 +29,16 @@ use Rattle.coder.specs.declared.NextUse.{NextUse}
 
 -- ---- a name, prepared
 
--- 01's number for each fault; without one, the characters
+-- 01's number and the place for each fault; without one, the characters
 abbrev pub namedBy : NameFault → List ℕ → Named
 namedBy fault.None cs = Chars cs
-namedBy fault.TooLong cs = Refused 1
-namedBy fault.NotUtf8 cs = Refused 2
-namedBy fault.NotAllowed cs = Refused 11
+namedBy fault.TooLong cs = Refused 1 0
+namedBy (fault.NotUtf8 place) cs = Refused 2 place
+namedBy (fault.NotAllowed place) cs = Refused 11 place
+
+-- the fault of bytes that begin, at a place, with a character that is not allowed: "check [..] 2, 11"
+abbrev pub foreignFault : ℕ → List ℕ → NameFault
+foreignFault at bytes = cond (isText bytes) (fault.NotAllowed at) (fault.NotUtf8 (at + badPlace bytes))
 
 pub record PreparedIs (p : Plate) (name : List ℕ) (r : Prepared) : Type 0 where
   pub is : namedBy (r .fault) (take (r .count) (r .chars)) ≡ named p name

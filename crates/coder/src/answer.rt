@@ -63,8 +63,8 @@ pub fn code_accepted(
     let fault = p.fault;
     match fault {
         NameFault::TooLong => Coded::NameTooLong,
-        NameFault::NotUtf8 => Coded::NotUtf8,
-        NameFault::NotAllowed => Coded::CharacterNotAllowed,
+        NameFault::NotUtf8(place) => Coded::NotUtf8(place),
+        NameFault::NotAllowed(place) => Coded::CharacterNotAllowed(place),
         NameFault::None => {
             let chars = p.chars;
             let n = p.count;

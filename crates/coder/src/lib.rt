@@ -13,12 +13,12 @@ enum Found {
     Nothing(bool),
 }
 
-// Why a name is not coded.
+// Why a name is not coded, and where in it the fault begins.
 enum NameFault {
     None,
     TooLong,
-    NotUtf8,
-    NotAllowed,
+    NotUtf8(usize),
+    NotAllowed(usize),
 }
 
 // The characters that are coded, zeros behind them; none where there is a fault.
@@ -38,12 +38,12 @@ struct NextUse {
     found: bool,
 }
 
-// What list and encode answer: the number of codes written, or why there are none.
+// What list and encode answer: the number of codes written, or why there are none, and at which byte of the name.
 pub enum Coded {
     Codes(usize),
     NotAPlate,
     NameTooLong,
-    NotUtf8,
-    CharacterNotAllowed,
+    NotUtf8(usize),
+    CharacterNotAllowed(usize),
     RoomTooSmall,
 }

@@ -1,19 +1,22 @@
 // From a name's bytes to the characters that are coded.
 ghost use mathlib.Core.Path.{_≡_};
 ghost use mathlib.Core.Bool.{true};
-ghost use lib.ListN.{replicate};
+ghost use lib.ListN.{length, drop, replicate};
+ghost use Prim.Native.Nat.{_≤_};
 ghost use Rattle.chars.specs.Table.{table};
 ghost use Rattle.plate.specs.Plate.{edition1};
 ghost use Rattle.plate.specs.Read.{plateAt, acceptedIn};
 ghost use Rattle.coder.specs.Name.{coded};
-ghost use Rattle.coder.specs.Held.{PreparedIs};
+ghost use Rattle.coder.specs.Held.{foreignFault, PreparedIs};
 ghost use Rattle.coder.specs.declared.NameFault.the-variants.{None};
 use super::NameFault;
 use super::Prepared;
 use chars::Char;
+use chars::Checked;
 use chars::letters::is_space;
 use chars::lower::lower;
 use chars::utf8::char_at;
+use chars::utf8::check_text;
 use plate::read;
 
 // "Lowercase each other character [..]. With the flag on, fold once, never again."
@@ -50,7 +53,19 @@ fn with_chars(chars: [u32; 256], count: usize) -> Prepared
     }
 }
 
-// The characters of a name, in one pass. A sequence that is not UTF-8 decides, though a character that is not allowed stood before it: 2 comes before 11.
+// The fault of a name with a character at `at` that is not allowed, and none before it. A sequence behind it that is not UTF-8 decides all the same: 2 comes
+// before 11.
+fn foreign_fault(name: &[u8], at: usize) -> NameFault
+    requires { ⌜ at ≤ length (now name) ⌝ }
+    ensures { λ r. ⌜ r ≡ foreignFault at (drop at (now (name .entry))) ⌝ }
+{
+    match check_text(&name[at..]) {
+        Checked::BadAt(behind) => NameFault::NotUtf8(at + behind),
+        Checked::Text(zero) => NameFault::NotAllowed(at),
+    }
+}
+
+// The characters of a name, in one pass.
 pub(crate) fn prepare(plate: &[u8], name: &[u8], t: &[u16; 384]) -> Prepared
     requires { ⌜ (acceptedIn edition1 (now plate) ≡ true) × (now t ≡ table) ⌝ }
     ensures { λ r. ⌜ PreparedIs (plateAt (edition1 .width) (now (plate .entry))) (now (name .entry)) r ⌝ }
@@ -60,29 +75,25 @@ pub(crate) fn prepare(plate: &[u8], name: &[u8], t: &[u16; 384]) -> Prepared
     }
     let mut chars = [0; 256];
     let mut count: usize = 0;
-    let mut foreign = false;
     let mut at: usize = 0;
     loop {
         match char_at(name, at) {
             Char::One(c, w) => {
-                at += w;
                 if is_space(c) {
+                    at += w;
                     continue;
                 }
                 if 0x180 <= c {
-                    foreign = true;
-                    continue;
+                    return no_chars(foreign_fault(name, at));
                 }
                 chars[count] = coded_char(plate, t, c);
                 count += 1;
+                at += w;
             }
             Char::Bad => {
-                return no_chars(NameFault::NotUtf8);
+                return no_chars(NameFault::NotUtf8(at));
             }
             Char::End => {
-                if foreign {
-                    return no_chars(NameFault::NotAllowed);
-                }
                 return with_chars(chars, count);
             }
         }

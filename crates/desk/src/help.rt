@@ -17,9 +17,10 @@ fn put_page(out: &mut [u8], pen: Pen) -> Pen {
 
 Each name is answered in a line of its own, as
   Peters: shelf 734000, search 734000|739400
-or refused there, with the reason and its number. A name with too many codes to
-search under still has its shelf. Lines without a name are passed over. On a
-terminal it asks for names; Ctrl-D in an empty line ends.
+or refused there, with the reason and its number; where a character is at fault
+the name stands below once more, a caret under it. A name with too many codes
+to search under still has its shelf. Lines without a name are passed over. On
+a terminal it asks for names; Ctrl-D in an empty line ends.
 
 Without --plate names are coded by the standard rules; dm build makes a plate
 from other rules. Status: 0 all answered, 1 refused, 2 wrong use, or a file

@@ -24,9 +24,10 @@ One word alone gives its codes alone; else a line is the name, a tab, the codes.
 Without --plate names are coded by the standard rules. --no-folding: they are
 not folded. Options stand anywhere; behind -- all words are names or files.
 
-A refusal is told on standard error, its number in front, and the next name is
-taken. A refused build leaves PLATE as it was. Status: 0 all answered, 1 some
-refused, 2 wrong use, or a file or output that cannot be read or written.
+A refusal is told on standard error, its number in front, a caret below the
+character at fault, and the next name is taken. A refused build leaves PLATE as
+it was. Status: 0 all answered, 1 some refused, 2 wrong use, or a file or
+output that cannot be read or written.
 
   dm list Rosochowaciec
   dm build my-rules.txt my.plate && dm list --plate my.plate Moskowitz Peters

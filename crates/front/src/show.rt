@@ -14,7 +14,7 @@ const LONGEST: usize = 256;
 const FRONT: usize = 40;
 
 // No controls, no marks that turn the direction of writing or are not seen.
-fn is_shown(c: u32) -> bool {
+pub(crate) fn is_shown(c: u32) -> bool {
     match c {
         0..=0x1F
         | 0x7F..=0x9F

@@ -2,42 +2,12 @@
 use super::out::Pen;
 use super::out::put;
 use super::rooms::byte;
-use super::show::next_char;
 use super::show::put_byte;
 use super::show::put_char;
 use super::show::put_number;
 use super::show::put_point;
 use chars::Char;
-use chars::letters::is_space;
 use chars::utf8::char_at;
-
-// Whether a character is one that makes a name be refused.
-fn is_strange(c: u32) -> bool {
-    if c < 0x180 {
-        return false;
-    }
-    !is_space(c)
-}
-
-// Whether a sequence that is not UTF-8 stands at a place, or, for 11, a character that no name may hold.
-fn is_fault(name: &[u8], at: usize, number: u64) -> bool {
-    match char_at(name, at) {
-        Char::One(c, _) => number == 11 && is_strange(c),
-        _ => true,
-    }
-}
-
-// The place for which 2 or 11 was given; the end for another number.
-pub fn fault_place(name: &[u8], number: u64) -> usize {
-    let mut at: usize = 0;
-    while at < name.len() {
-        if is_fault(name, at, number) {
-            return at;
-        }
-        at = next_char(name, at);
-    }
-    at
-}
 
 fn put_strange(out: &mut [u8], pen: Pen, name: &[u8], place: usize) -> Pen {
     let Char::One(c, _) = char_at(name, place) else {
@@ -56,7 +26,7 @@ fn put_broken(out: &mut [u8], pen: Pen, name: &[u8], place: usize) -> Pen {
     put(out, pen, b" on")
 }
 
-// Why a name was refused; the place is that of the character that 2 and 11 are about.
+// Why a name was refused; the place is the one that the call answered.
 pub fn name_words(out: &mut [u8], pen: Pen, number: u64, name: &[u8], place: usize) -> Pen {
     match number {
         1 => put(out, pen, b"the name has over 256 bytes"),

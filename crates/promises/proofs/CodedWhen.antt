@@ -1,4 +1,4 @@
--- The numbers that the definitions give meet the table's conditions (specs/When.antt), and no two numbers meet them for one input. Assumes nothing.
+-- The numbers that encode's and list's definitions give meet the table's conditions (specs/When.antt). Assumes nothing.
 use Prim.Native.Nat.{ℕ, _<_, _≤_}
 use mathlib.Core.Path.{_≡_, refl, sym, ap, subst, _∙_}
 use mathlib.Core.Logic.{_⊎_, inl, inr}
@@ -12,7 +12,7 @@ use lib.ListN.{length}
 use Rattle.laws.specs.Lists.{In, every}
 use Rattle.laws.proofs.Tests.{or-true, neither}
 use Rattle.laws.proofs.Members.{in-every}
-use Rattle.chars.specs.Utf8.{isText, charsOf}
+use Rattle.chars.specs.Utf8.{isText, charsOf, badPlace, failPlace}
 use Rattle.chars.specs.Letters.{white}
 use Rattle.plate.specs.Plate.{Rule, Plate}
 use Rattle.plate.specs.Read.{readPlate}
@@ -28,7 +28,7 @@ use Rattle.coder.specs.Given.{usesIn}
 use Rattle.coder.proofs.Answers.{judged}
 use Rattle.coder.proofs.Demands.{some-inj}
 use Rattle.promises.specs.Said.{IsPlate}
-use Rattle.promises.specs.When.{Check, NotAPlate, Strange, Overfull, NameNumber, ListNumber, EncodeNumber}
+use Rattle.promises.specs.When.{Check, NotAPlate, Strange, Overfull, NameNumber}
 
 -- ---- one that fails a test
 
@@ -50,13 +50,13 @@ read-plate bytes p b e = let x = edition1-exact bytes p b e in (x .1, x .0)
 
 -- ---- names
 
-strange : (cs : List ℕ) → every allowed cs ≡ false → (c : ℕ) × In c cs × (white c ≡ false) × (0x180 ≤ c)
+pub strange : (cs : List ℕ) → every allowed cs ≡ false → (c : ℕ) × In c cs × (white c ≡ false) × (0x180 ≤ c)
 strange cs e =
     let x = every-false allowed cs e in
     let n = neither (white (x .0)) (ltb (x .0) 0x180) (x .2) in
     (x .0, x .1, n .0, ltb-false (x .0) 0x180 (n .1))
 
-not-strange : (cs : List ℕ) → every allowed cs ≡ true → (c : ℕ) × In c cs × (white c ≡ false) × (0x180 ≤ c) → ⊥
+pub not-strange : (cs : List ℕ) → every allowed cs ≡ true → (c : ℕ) × In c cs × (white c ≡ false) × (0x180 ≤ c) → ⊥
 not-strange cs e s = go (or-true (white (s .0)) (ltb (s .0) 0x180) (in-every allowed cs (s .0) e (s .1)))
   where
     go : (white (s .0) ≡ true) ⊎ (ltb (s .0) 0x180 ≡ true) → ⊥
@@ -64,19 +64,19 @@ not-strange cs e s = go (or-true (white (s .0)) (ltb (s .0) 0x180) (in-every all
     go (inr h) = let a = ltb-true (s .0) 0x180 h in let b = s .3 in omega arith
 
 -- The checks of a name in front of a call whose own number meets its own check.
-named-number : (call : List Use → List ℕ → code.Coded) (rs : List Rule) (cs lent : List ℕ) (long text fine : Bool) (w₁ w₂ w₁₁ w₁₂ : Type 0)
+named-number : (call : List Use → List ℕ → code.Coded) (rs : List Rule) (cs lent : List ℕ) (long text fine : Bool) (foreign broken : ℕ) (w₁ w₂ w₁₁ w₁₂ : Type 0)
     → (long ≡ true → w₁) → (long ≡ false → w₁ → ⊥) → (text ≡ false → w₂) → (text ≡ true → w₂ → ⊥) → (fine ≡ false → w₁₁) → (fine ≡ true → w₁₁ → ⊥)
     → Check (call (uses rs cs) lent .number) 12 w₁₂ (call (uses rs cs) lent .number ≡ 0)
-    → (let n = code.answered call rs (judged long text fine cs) lent .number in Check n 1 w₁ (Check n 2 w₂ (Check n 11 w₁₁ (Check n 12 w₁₂ (n ≡ 0)))))
-named-number call rs cs lent true text fine w₁ w₂ w₁₁ w₁₂ a a′ b b′ c c′ last = inl (a refl, refl)
-named-number call rs cs lent false false fine w₁ w₂ w₁₁ w₁₂ a a′ b b′ c c′ last = inr (a′ refl, inl (b refl, refl))
-named-number call rs cs lent false true false w₁ w₂ w₁₁ w₁₂ a a′ b b′ c c′ last = inr (a′ refl, inr (b′ refl, inl (c refl, refl)))
-named-number call rs cs lent false true true w₁ w₂ w₁₁ w₁₂ a a′ b b′ c c′ last = inr (a′ refl, inr (b′ refl, inr (c′ refl, last)))
+    → (let n = code.answered call rs (judged long text fine foreign broken cs) lent .number in Check n 1 w₁ (Check n 2 w₂ (Check n 11 w₁₁ (Check n 12 w₁₂ (n ≡ 0)))))
+named-number call rs cs lent true text fine foreign broken w₁ w₂ w₁₁ w₁₂ a a′ b b′ c c′ last = inl (a refl, refl)
+named-number call rs cs lent false false fine foreign broken w₁ w₂ w₁₁ w₁₂ a a′ b b′ c c′ last = inr (a′ refl, inl (b refl, refl))
+named-number call rs cs lent false true false foreign broken w₁ w₂ w₁₁ w₁₂ a a′ b b′ c c′ last = inr (a′ refl, inr (b′ refl, inl (c refl, refl)))
+named-number call rs cs lent false true true foreign broken w₁ w₂ w₁₁ w₁₂ a a′ b b′ c c′ last = inr (a′ refl, inr (b′ refl, inr (c′ refl, last)))
 
 name-number : (call : List Use → List ℕ → code.Coded) (p : Plate) (name lent : List ℕ) (full : Type 0)
     → Check (call (usesIn p name) lent .number) 12 full (call (usesIn p name) lent .number ≡ 0) → NameNumber name full (codedBy call p name lent .number)
 name-number call p name lent full last =
-    named-number call (p .rules) (prepared p name) lent (ltb 256 (length name)) (isText name) (every allowed (charsOf name)) (256 < length name) (isText name ≡ false) (Strange name) full
+    named-number call (p .rules) (prepared p name) lent (ltb 256 (length name)) (isText name) (every allowed (charsOf name)) (failPlace allowed name) (badPlace name) (256 < length name) (isText name ≡ false) (Strange name) full
     (λ e. ltb-true 256 (length name) e) (λ e h. let k = ltb-false 256 (length name) e in omega arith)
     (λ e. e) (λ e h. false≢true (sym h ∙ e))
     (λ e. strange (charsOf name) e) (λ e h. not-strange (charsOf name) e h)
@@ -145,10 +145,10 @@ module _ (plate name lent : List ℕ) (bytes : Bytes plate) where
           let w = read-plate plate p bytes e in
           inr ((λ never. never p w), name-number call p name lent full (last p w))
 
-  pub list-number : ListNumber plate name lent (listAnswer plate name lent .number)
+  pub list-checks : (let n = listAnswer plate name lent .number in Check n 10 (NotAPlate plate) (NameNumber name (Overfull plate name lent) n))
   unfolding listAnswer
-  list-number = plated-number code.listed (Overfull plate name lent) (λ p w. overfull plate name lent p w)
+  list-checks = plated-number code.listed (Overfull plate name lent) (λ p w. overfull plate name lent p w)
 
-  pub encode-number : EncodeNumber plate name lent (encodeAnswer plate name lent .number)
+  pub encode-checks : (let n = encodeAnswer plate name lent .number in Check n 10 (NotAPlate plate) (NameNumber name (length lent < 6) n))
   unfolding encodeAnswer
-  encode-number = plated-number code.encoded (length lent < 6) (λ p w. too-short (usesIn p name) lent)
+  encode-checks = plated-number code.encoded (length lent < 6) (λ p w. too-short (usesIn p name) lent)

@@ -31,7 +31,7 @@ use Rattle.promises.specs.Said.{plateSaid, IsPlate}
 use Rattle.promises.specs.When.{Check, Overfull, NameNumber}
 use Rattle.promises.specs.Demands.{SixDigits, Writes, BuildGives, ListGives, EncodeGives, OnePlate}
 use Rattle.promises.proofs.Said.{Holds, enter-holds}
-use Rattle.promises.proofs.CodedWhen.{plate-read, read-plate, list-number, encode-number}
+use Rattle.promises.proofs.CodedWhen.{plate-read, read-plate, list-checks, encode-checks}
 use Rattle.promises.proofs.Places.{each-place, code-placed, bar-placed, as-lent, as-long}
 use Rattle.promises.proofs.Digits.{yielded-six, codes-six}
 
@@ -144,7 +144,7 @@ module _ (plate name lent : List ℕ) (bytes : Bytes plate) where
   -- The branches of an answered list fit the room.
   fits : (p : Plate) → IsPlate p plate → listAnswer plate name lent .number ≡ 0 → length (codes (usesIn p name)) ≤ room lent
   fits p w n =
-      let a = passed 10 (listAnswer plate name lent .number) (omega arith) n (list-number plate name lent bytes) in
+      let a = passed 10 (listAnswer plate name lent .number) (omega arith) n (list-checks plate name lent bytes) in
       let never = name-passed name (Overfull plate name lent) (listAnswer plate name lent .number) n (a .1) in
       let many = length-map (run (usesIn p name) start) code in
       let fewer = once-short same (map code (run (usesIn p name) start)) in
@@ -173,7 +173,7 @@ module _ (plate name lent : List ℕ) (bytes : Bytes plate) where
       let p = g .0 in
       let us = usesIn p name in
       let w = read-plate plate p bytes (g .1) in
-      let a = passed 10 (encodeAnswer plate name lent .number) (omega arith) n (encode-number plate name lent bytes) in
+      let a = passed 10 (encodeAnswer plate name lent .number) (omega arith) n (encode-checks plate name lent bytes) in
       let never = name-passed name (length lent < 6) (encodeAnswer plate name lent .number) n (a .1) in
       let six = yielded-six p name (w .0) (firsts us) (firsts-chosen us (filled plate name p (g .1))) in
       let long : 7 * 1 - 1 ≤ length lent = by-lt (length lent) 6 (λ h. absurd (never h)) (λ h. omega arith) in

@@ -11,3 +11,4 @@ pub mod Wider
 pub mod Largest
 pub mod Calls
 pub mod Once
+pub mod Placed

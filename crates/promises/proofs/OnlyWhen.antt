@@ -1,4 +1,4 @@
--- The table's conditions (specs/When.antt) exclude each other: no two numbers, and no two lines, meet them for one input. So a number comes back exactly when
+-- The table's conditions (specs/When.antt) exclude each other: no two numbers, places or lines meet them for one input. So a number comes back exactly when
 -- its condition holds and none before it. And only numbers of the table meet them. Assumes nothing.
 use Prim.Native.Nat.{ℕ, zero, suc, _<_, _≤_}
 use mathlib.Core.Path.{_≡_, refl, sym, subst, _∙_}
@@ -14,6 +14,7 @@ use Rattle.rule_text.specs.Items.Item.{RuleItem, FoldingItem, LineEndItem, Comm
 use Rattle.promises.specs.Demands.{buildNumbers, codeNumbers}
 use Rattle.promises.specs.When.{Check, Overfull, NameNumber, ListNumber, EncodeNumber, FieldNumber, ItemNumber, ItemsNumber, BuildNumber, Exclusive}
 use Rattle.promises.proofs.Said.{some-in}
+use Rattle.promises.proofs.Placed.{place-only}
 
 -- ---- two numbers
 
@@ -29,11 +30,15 @@ answered a b = a ∙ sym b
 name-only : (name : List ℕ) (full : Type 0) (n n′ : ℕ) → NameNumber name full n → NameNumber name full n′ → n ≡ n′
 name-only name full n n′ = check-only 1 (check-only 2 (check-only 11 (check-only 12 answered)))
 
-list-only : (plate name lent : List ℕ) (n n′ : ℕ) → ListNumber plate name lent n → ListNumber plate name lent n′ → n ≡ n′
-list-only plate name lent n n′ = check-only 10 (name-only name (Overfull plate name lent) n n′)
+list-only : (plate name lent : List ℕ) (n place n′ place′ : ℕ) → ListNumber plate name lent n place → ListNumber plate name lent n′ place′
+    → (n ≡ n′) × (place ≡ place′)
+list-only plate name lent n place n′ place′ a b =
+    let e = check-only 10 (name-only name (Overfull plate name lent) n n′) (a .0) (b .0) in (e, place-only name n n′ place place′ e (a .1) (b .1))
 
-encode-only : (plate name lent : List ℕ) (n n′ : ℕ) → EncodeNumber plate name lent n → EncodeNumber plate name lent n′ → n ≡ n′
-encode-only plate name lent n n′ = check-only 10 (name-only name (length lent < 6) n n′)
+encode-only : (plate name lent : List ℕ) (n place n′ place′ : ℕ) → EncodeNumber plate name lent n place → EncodeNumber plate name lent n′ place′
+    → (n ≡ n′) × (place ≡ place′)
+encode-only plate name lent n place n′ place′ a b =
+    let e = check-only 10 (name-only name (length lent < 6) n n′) (a .0) (b .0) in (e, place-only name n n′ place place′ e (a .1) (b .1))
 
 field-only : {else else′ : Type 0} (f : List ℕ) {n n′ : ℕ} → (else → else′ → n ≡ n′) → FieldNumber f n else → FieldNumber f n′ else′ → n ≡ n′
 field-only f go = check-only 6 (check-only 7 go)

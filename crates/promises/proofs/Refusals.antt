@@ -25,7 +25,7 @@ use Rattle.coder.specs.Answer as code
 use Rattle.coder.specs.Answer.{Coded, room, listing, listed, encoded, plated, listAnswer, encodeAnswer}
 use Rattle.promises.specs.When.{Overfull}
 use Rattle.promises.specs.Demands.{Keeps, BuildRefuses, ListRefuses, EncodeRefuses}
-use Rattle.promises.proofs.CodedWhen.{list-number, encode-number}
+use Rattle.promises.proofs.Placed.{list-number, encode-number}
 use Rattle.promises.proofs.BuiltWhen.{build-number}
 use Rattle.promises.proofs.OnlyWhen.{build-in, coded-in}
 
@@ -59,7 +59,7 @@ Untouched lent a = Keeps (a .number) (a .count) lent (a .buffer)
 -- A name that is refused, or a call that keeps.
 named-keeps : (call : List Use → List ℕ → Coded) → ((us : List Use) (lent : List ℕ) → Untouched lent (call us lent)) → (rs : List Rule) (n : Named) (lent : List ℕ)
     → Untouched lent (code.answered call rs n lent)
-named-keeps call h rs (Refused number) lent = λ _. (refl, refl)
+named-keeps call h rs (Refused number place) lent = λ _. (refl, refl)
 named-keeps call h rs (Chars cs) lent = h (uses rs cs) lent
 
 plated-keeps : (call : List Use → List ℕ → Coded) → ((us : List Use) (lent : List ℕ) → Untouched lent (call us lent)) → (o : Option Plate) (name lent : List ℕ)
@@ -76,7 +76,7 @@ module _ (plate name lent : List ℕ) (bytes : Bytes plate) where
   list-refuses =
       let n = list-number plate name lent bytes in (
         n,
-        coded-in name (Overfull plate name lent) (listAnswer plate name lent .number) n,
+        coded-in name (Overfull plate name lent) (listAnswer plate name lent .number) (n .0),
         plated-keeps listed (λ us l. by-test (Untouched l) (over (room l) us start) _ _ (λ e _. (refl, refl)) (λ e. listing-keeps (codes us) l)) (readPlate plate) name lent,
       )
 
@@ -85,6 +85,6 @@ module _ (plate name lent : List ℕ) (bytes : Bytes plate) where
   encode-refuses =
       let n = encode-number plate name lent bytes in (
         n,
-        coded-in name (length lent < 6) (encodeAnswer plate name lent .number) n,
+        coded-in name (length lent < 6) (encodeAnswer plate name lent .number) (n .0),
         plated-keeps encoded (λ us l. by-test (Untouched l) (ltb (length l) 6) _ _ (λ e _. (refl, refl)) (λ e. listing-keeps (codes (map firstOnly us)) l)) (readPlate plate) name lent,
       )

@@ -19,12 +19,14 @@ use Rattle.coder.specs.Answer.{Coded, listAnswer, encodeAnswer}
 pub data Case : Type 0 where
   -- text, flag, name, lent, codes: list gives these codes, and encode the first of them
   Codes : List ℕ → Bool → List ℕ → ℕ → List ℕ → Case
-  -- text, flag, name, lent, number: list refuses the name
+  -- text, flag, name, lent, number: list refuses the name, at place 0
   BadName : List ℕ → Bool → List ℕ → ℕ → ℕ → Case
   -- text, flag, name, lent, code: encode gives this code
   OneCode : List ℕ → Bool → List ℕ → ℕ → List ℕ → Case
-  -- text, flag, name, lent, number: encode refuses the name
+  -- text, flag, name, lent, number: encode refuses the name, at place 0
   NoCode : List ℕ → Bool → List ℕ → ℕ → ℕ → Case
+  -- text, flag, name, lent, number, place: list and encode refuse the name at that byte
+  BadPlace : List ℕ → Bool → List ℕ → ℕ → ℕ → ℕ → Case
   -- text, rules, foldings: build answers, and the plate holds so many of each
   GoodText : List ℕ → ℕ → ℕ → Case
   -- text, number, line: build refuses the text
@@ -42,17 +44,20 @@ lend n = replicate n 7
 abbrev pub builtOf : List ℕ → Bool → List ℕ
 builtOf text flag = let b = buildAnswer text flag (lend 700) in take (b .length) (b .buffer)
 
--- number, count and the whole buffer
-abbrev pub codedIs : Coded → ℕ → ℕ → List ℕ → Bool
-codedIs a number count buffer = eqb (a .number) number && (eqb (a .count) count && same (a .buffer) buffer)
+-- number, count, place and the whole buffer
+abbrev pub codedIs : Coded → ℕ → ℕ → ℕ → List ℕ → Bool
+codedIs a number count place buffer = eqb (a .number) number && (eqb (a .count) count && (eqb (a .place) place && same (a .buffer) buffer))
 
 -- the codes in front, and the bytes behind them as lent
 abbrev pub gives : Coded → ℕ → List ℕ → Bool
-gives a lent codes = codedIs a 0 (length (alternatives codes)) (codes ++ lend (lent - length codes))
+gives a lent codes = codedIs a 0 (length (alternatives codes)) 0 (codes ++ lend (lent - length codes))
 
 -- nothing given, and every byte as lent
+abbrev pub refusesAt : Coded → ℕ → ℕ → ℕ → Bool
+refusesAt a lent number place = codedIs a number 0 place (lend lent)
+
 abbrev pub refuses : Coded → ℕ → ℕ → Bool
-refuses a lent number = codedIs a number 0 (lend lent)
+refuses a lent number = refusesAt a lent number 0
 
 abbrev pub builtIs : Built → ℕ → ℕ → ℕ → List ℕ → Bool
 builtIs b number line length buffer = eqb (b .number) number && (eqb (b .line) line && (eqb (b .length) length && same (b .buffer) buffer))
@@ -73,6 +78,9 @@ holds (Codes text flag name lent codes) =
 holds (BadName text flag name lent number) = refuses (listAnswer (builtOf text flag) name (lend lent)) lent number
 holds (OneCode text flag name lent code) = gives (encodeAnswer (builtOf text flag) name (lend lent)) lent code
 holds (NoCode text flag name lent number) = refuses (encodeAnswer (builtOf text flag) name (lend lent)) lent number
+holds (BadPlace text flag name lent number place) =
+    let plate = builtOf text flag in
+    refusesAt (listAnswer plate name (lend lent)) lent number place && refusesAt (encodeAnswer plate name (lend lent)) lent number place
 holds (GoodText text rules foldings) = holding (readPlate (builtOf text true)) rules foldings
 holds (BadText text number line) = builtIs (buildAnswer text true (lend 700)) number line 0 (lend 700)
 holds (Written text flag plate) = builtIs (buildAnswer text flag (lend 700)) 0 0 (length plate) (plate ++ lend (700 - length plate))

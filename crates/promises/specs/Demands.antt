@@ -20,7 +20,7 @@ use Rattle.promises.specs.Said.{rulesOf, foldingsOf, plateSaid, IsPlate}
 use Rattle.promises.specs.When.{BuildNumber, ListNumber, EncodeNumber}
 
 -- ---- demand 1: "Any bytes as rule text, plate or name bring an answer or one numbered refusal, given exactly when document 01 says. A refused call changes
--- no byte of the buffer it was lent." When each number is given stands in When.antt.
+-- no byte of the buffer it was lent." When each number is given, and with which place in the name, stands in When.antt.
 
 -- the numbers of the table that build, and that encode and list, can bring
 abbrev pub buildNumbers : List ℕ
@@ -37,10 +37,10 @@ abbrev pub BuildRefuses : List ℕ → Bool → List ℕ → Built → Type 0
 BuildRefuses text flag lent a = BuildNumber text flag lent (a .number) (a .line) × In (a .number) buildNumbers × Keeps (a .number) (a .length) lent (a .buffer)
 
 abbrev pub ListRefuses : List ℕ → List ℕ → List ℕ → Coded → Type 0
-ListRefuses plate name lent a = ListNumber plate name lent (a .number) × In (a .number) codeNumbers × Keeps (a .number) (a .count) lent (a .buffer)
+ListRefuses plate name lent a = ListNumber plate name lent (a .number) (a .place) × In (a .number) codeNumbers × Keeps (a .number) (a .count) lent (a .buffer)
 
 abbrev pub EncodeRefuses : List ℕ → List ℕ → List ℕ → Coded → Type 0
-EncodeRefuses plate name lent a = EncodeNumber plate name lent (a .number) × In (a .number) codeNumbers × Keeps (a .number) (a .count) lent (a .buffer)
+EncodeRefuses plate name lent a = EncodeNumber plate name lent (a .number) (a .place) × In (a .number) codeNumbers × Keeps (a .number) (a .count) lent (a .buffer)
 
 -- ---- demand 2: "Plates and codes equal the definitions written from the crate's rules and description." (The comparison with the Rust is run, not proved.)
 

@@ -7,7 +7,7 @@ use mathlib.Core.List.{List, [], _∷_, _++_, map}
 use lib.Dec.{T}
 use lib.ListN.{replicate}
 use Rattle.laws.specs.Lists.{splitAt}
-use Rattle.chars.specs.Utf8.{textFrom, charsFrom}
+use Rattle.chars.specs.Utf8.{textFrom, charsFrom, soundFrom}
 use Rattle.chars.specs.Letters.{white, capital, evenCapital, oddCapital, lowerOf, vowel}
 use Rattle.chars.specs.Quoted.{bytes, lines}
 use Rattle.rule_text.specs.Forms.{entry, quadruplet, folding, multilineComment, endOfLine, ending, comment, blanks, until, count, later, pairAt, lineAt, part, plain, escaped, partAt, letterAt, closing}
@@ -20,7 +20,7 @@ use Rattle.builder.specs.Build.{buildAnswer, verdict}
 use Rattle.branches.specs.Branches.{endsWith, extend, met, step, run, over}
 use Rattle.coder.specs.Walk.{walk}
 use Rattle.coder.specs.Answer.{joined, room, listAnswer, encodeAnswer}
-use Rattle.promises.specs.Case.{Case, Codes, BadName, OneCode, NoCode, GoodText, BadText, Written, Taken, apart}
+use Rattle.promises.specs.Case.{Case, Codes, BadName, BadPlace, OneCode, NoCode, GoodText, BadText, Written, Taken, apart}
 use Rattle.promises.specs.Starred.{textS, under, underS}
 
 -- S, and a rule behind it with one field three times
@@ -62,7 +62,7 @@ cases =
     ∷ OneCode textS true (bytes "cc") 7 (bytes "400000")
     ∷ NoCode (bytes "?") true (bytes "cc") 0 10
     ∷ NoCode textS true (replicate 257 0xFF) 0 1
-    ∷ NoCode textS true (0xC6 ∷ 0x80 ∷ 0xFF ∷ []) 0 2
+    ∷ BadPlace textS true (0xC6 ∷ 0x80 ∷ 0xFF ∷ []) 0 2 2
     ∷ NoCode textS true (bytes "ƀ") 0 11
     -- "Encode takes the first alternative only": branches do not refuse it
     ∷ OneCode textS true (bytes "cacacacacacac") 6 (bytes "444444")
@@ -113,5 +113,5 @@ wrong =
     ∷ []
 
 pub edges : T (apart cases wrong)
-unfolding textFrom charsFrom white capital evenCapital oddCapital lowerOf vowel entry quadruplet folding multilineComment endOfLine ending comment blanks until count later pairAt lineAt part plain escaped partAt letterAt closing itemsFrom splitAt bit numberAt buildAnswer verdict endsWith extend met step run over foldBy walk joined room listAnswer encodeAnswer
+unfolding textFrom charsFrom soundFrom white capital evenCapital oddCapital lowerOf vowel entry quadruplet folding multilineComment endOfLine ending comment blanks until count later pairAt lineAt part plain escaped partAt letterAt closing itemsFrom splitAt bit numberAt buildAnswer verdict endsWith extend met step run over foldBy walk joined room listAnswer encodeAnswer
 edges = tt

@@ -7,3 +7,4 @@ pub mod When
 pub mod Demands
 pub mod Pair
 pub mod Once
+pub mod Place

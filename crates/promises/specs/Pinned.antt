@@ -7,7 +7,7 @@ use mathlib.Core.List.{List, [], _∷_, _++_}
 use lib.Dec.{T}
 use lib.ListN.{replicate}
 use Rattle.laws.specs.Lists.{splitAt}
-use Rattle.chars.specs.Utf8.{textFrom, charsFrom, bytesOf}
+use Rattle.chars.specs.Utf8.{textFrom, charsFrom, soundFrom, bytesOf}
 use Rattle.chars.specs.Letters.{white, capital, evenCapital, oddCapital, lowerOf, vowel}
 use Rattle.chars.specs.Quoted.{bytes, lines}
 use Rattle.rule_text.specs.Forms.{entry, quadruplet, folding, multilineComment, endOfLine, ending, comment, blanks, until, count, later, pairAt, lineAt, part, plain, escaped, partAt, letterAt, closing}
@@ -18,7 +18,7 @@ use Rattle.branches.specs.Branches.{endsWith, extend, met, step, run, over}
 use Rattle.plate.specs.Read.{foldBy}
 use Rattle.coder.specs.Walk.{walk}
 use Rattle.coder.specs.Answer.{joined, room, listAnswer, encodeAnswer}
-use Rattle.promises.specs.Case.{Case, Codes, BadName, GoodText, BadText, apart}
+use Rattle.promises.specs.Case.{Case, Codes, BadName, BadPlace, GoodText, BadText, apart}
 use Rattle.promises.specs.Starred.{textS, under, underS}
 
 -- n foldings, of the characters from c on
@@ -88,7 +88,7 @@ cases =
     -- names: 1, 2, 11, in this order; 10 before them
     ∷ Codes textS true (replicate 256 114) 6 (bytes "900000")
     ∷ BadName textS true (replicate 257 0xFF) 0 1
-    ∷ BadName textS true (0xC6 ∷ 0x80 ∷ 0xFF ∷ []) 0 2
+    ∷ BadPlace textS true (0xC6 ∷ 0x80 ∷ 0xFF ∷ []) 0 2 2
     ∷ BadName textS true (bytes "ƀ") 0 11
     ∷ underS "ſr" "900000"
     ∷ underS "r\u{2003}r" "900000"
@@ -154,5 +154,5 @@ wrong =
     ∷ []
 
 pub pinned : T (apart cases wrong)
-unfolding textFrom charsFrom white capital evenCapital oddCapital lowerOf vowel entry quadruplet folding multilineComment endOfLine ending comment blanks until count later pairAt lineAt part plain escaped partAt letterAt closing itemsFrom splitAt bit numberAt buildAnswer verdict endsWith extend met step run over foldBy walk joined room listAnswer encodeAnswer
+unfolding textFrom charsFrom soundFrom white capital evenCapital oddCapital lowerOf vowel entry quadruplet folding multilineComment endOfLine ending comment blanks until count later pairAt lineAt part plain escaped partAt letterAt closing itemsFrom splitAt bit numberAt buildAnswer verdict endsWith extend met step run over foldBy walk joined room listAnswer encodeAnswer
 pinned = tt

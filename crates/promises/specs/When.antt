@@ -3,12 +3,13 @@
 use Prim.Native.Nat.{ℕ, _<_, _≤_}
 use mathlib.Core.Path.{_≡_}
 use mathlib.Core.Logic.{_⊎_}
-use mathlib.Core.Bool.{Bool, false, cond}
+use mathlib.Core.Bool.{Bool, true, false, cond}
 use mathlib.Core.List.{List, [], _∷_, _++_}
 use lib.Dec.{eqb}
-use lib.ListN.{length}
+use lib.ListN.{length, take, drop}
 use Rattle.laws.specs.Lists.{In, some}
-use Rattle.chars.specs.Utf8.{isText, charsOf}
+use Rattle.chars.specs.Utf8.{charOf, isText, charsOf}
+use Rattle.chars.specs.declared.Char.the-variants.{One, Bad}
 use Rattle.chars.specs.Letters.{white}
 use Rattle.rule_text.specs.Items.{Item, items, firstLine, lineBehind}
 use Rattle.rule_text.specs.Items.Item.{RuleItem, FoldingItem, LineEndItem, CommentItem, UnknownItem}
@@ -35,6 +36,26 @@ NotAPlate bytes = (p : Plate) → IsPlate p bytes → ⊥
 abbrev pub Strange : List ℕ → Type 0
 Strange name = (c : ℕ) × In c (charsOf name) × (white c ≡ false) × (0x180 ≤ c)
 
+-- 02, M-101, with 2: "the first byte of the earliest sequence that is not UTF-8". What stands before it is UTF-8, and at it stands no character.
+abbrev pub BadAt : List ℕ → ℕ → Type 0
+BadAt name place = (isText (take place name) ≡ true) × (charOf (drop place name) ≡ Bad)
+
+-- With 11, the first byte of the first such character: what stands before it holds none, and at it stands one.
+pub record StrangeAt (name : List ℕ) (place : ℕ) : Type 0 where
+  pub c : ℕ
+  pub width : ℕ
+  pub text : isText (take place name) ≡ true
+  pub none : Strange (take place name) → ⊥
+  pub stands : charOf (drop place name) ≡ One c width
+  pub inked : white c ≡ false
+  pub high : 0x180 ≤ c
+
+-- "refusals 2 and 11 of encode and list return that place, all other answers return 0."
+pub record Placed (name : List ℕ) (n place : ℕ) : Type 0 where
+  pub bad : n ≡ 2 → BadAt name place
+  pub strange : n ≡ 11 → StrangeAt name place
+  pub other : (n ≡ 2 → ⊥) → (n ≡ 11 → ⊥) → place ≡ 0
+
 -- 12, for list: "the branch list, at the start or after some step, is longer than room"
 abbrev pub Overfull : List ℕ → List ℕ → List ℕ → Type 0
 Overfull plate name lent =
@@ -44,12 +65,13 @@ Overfull plate name lent =
 abbrev pub NameNumber : List ℕ → Type 0 → ℕ → Type 0
 NameNumber name full n = Check n 1 (256 < length name) (Check n 2 (isText name ≡ false) (Check n 11 (Strange name) (Check n 12 full (n ≡ 0))))
 
-abbrev pub ListNumber : List ℕ → List ℕ → List ℕ → ℕ → Type 0
-ListNumber plate name lent n = Check n 10 (NotAPlate plate) (NameNumber name (Overfull plate name lent) n)
+-- number and place
+abbrev pub ListNumber : List ℕ → List ℕ → List ℕ → ℕ → ℕ → Type 0
+ListNumber plate name lent n place = Check n 10 (NotAPlate plate) (NameNumber name (Overfull plate name lent) n) × Placed name n place
 
 -- 12: "For encode: the buffer is under 6 bytes."
-abbrev pub EncodeNumber : List ℕ → List ℕ → List ℕ → ℕ → Type 0
-EncodeNumber plate name lent n = Check n 10 (NotAPlate plate) (NameNumber name (length lent < 6) n)
+abbrev pub EncodeNumber : List ℕ → List ℕ → List ℕ → ℕ → ℕ → Type 0
+EncodeNumber plate name lent n place = Check n 10 (NotAPlate plate) (NameNumber name (length lent < 6) n) × Placed name n place
 
 -- ---- build: "1, then 2 (whole text), then items front to back, the first fault in the text deciding. [..] Last 9."
 
@@ -100,10 +122,10 @@ BuildNumber text flag lent n line =
     (Check n 9 (length lent < length (plateBytes edition1 (plateSaid flag text))) (n ≡ 0))))
     × (((3 ≤ n) × (n ≤ 8) → ⊥) → line ≡ 0)
 
--- ---- no two numbers, and no two lines, meet the conditions for one input
+-- ---- no two numbers, no two places and no two lines meet the conditions for one input
 
 abbrev pub Exclusive : Type 0
 Exclusive =
-    ((plate name lent : List ℕ) (n n′ : ℕ) → ListNumber plate name lent n → ListNumber plate name lent n′ → n ≡ n′)
-    × ((plate name lent : List ℕ) (n n′ : ℕ) → EncodeNumber plate name lent n → EncodeNumber plate name lent n′ → n ≡ n′)
+    ((plate name lent : List ℕ) (n place n′ place′ : ℕ) → ListNumber plate name lent n place → ListNumber plate name lent n′ place′ → (n ≡ n′) × (place ≡ place′))
+    × ((plate name lent : List ℕ) (n place n′ place′ : ℕ) → EncodeNumber plate name lent n place → EncodeNumber plate name lent n′ place′ → (n ≡ n′) × (place ≡ place′))
     × ((text : List ℕ) (flag : Bool) (lent : List ℕ) (n line n′ line′ : ℕ) → BuildNumber text flag lent n line → BuildNumber text flag lent n′ line′ → (n ≡ n′) × (line ≡ line′))

@@ -17,7 +17,7 @@ one-built a r r′ out out′ e f =
 one-coded : (a : Coded) (r r′ : DmCoded) (out out′ : List ℕ) → coded r out ≡ a → coded r′ out′ ≡ a → (r ≡ r′) × (out ≡ out′)
 one-coded a r r′ out out′ e f =
     let same = e ∙ sym f in
-    (ap (λ (b : Coded). record { number = b .number; count = b .count }) same, ap (λ (b : Coded). b .buffer) same)
+    (ap (λ (b : Coded). record { number = b .number; count = b .count; place = b .place }) same, ap (λ (b : Coded). b .buffer) same)
 
 pub dm-build : (text : List ℕ) (folding : Bool) (lent : List ℕ) (r r′ : DmBuilt) (out out′ : List ℕ)
     → built r out ≡ buildAnswer text folding lent → built r′ out′ ≡ buildAnswer text folding lent → (r ≡ r′) × (out ≡ out′)

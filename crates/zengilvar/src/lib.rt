@@ -25,11 +25,12 @@ pub struct DmBuilt {
     pub length: u64,
 }
 
-// What dm_encode and dm_list answer.
+// What dm_encode and dm_list answer. `place` is the byte of the name at which its fault begins, with 2 and 11.
 #[repr(C)]
 pub struct DmCoded {
     pub number: u64,
     pub count: u64,
+    pub place: u64,
 }
 
 // 01's number of a fault.
@@ -73,16 +74,17 @@ fn built_numbers(b: Built) -> DmBuilt
     }
 }
 
-fn coded_refusal(number: u64) -> DmCoded
-    ensures { λ r. ⌜ r ≡ record { number = number; count = 0 } ⌝ }
+fn coded_refusal(number: u64, place: u64) -> DmCoded
+    ensures { λ r. ⌜ r ≡ record { number = number; count = 0; place = place } ⌝ }
 {
     DmCoded {
         number: number,
         count: 0,
+        place: place,
     }
 }
 
-// 01's number and count of what encode and list answer.
+// 01's number and count of what encode and list answer, and the place.
 fn coded_numbers(c: Coded) -> DmCoded
     ensures { λ r. ⌜ ((out : List ℕ) → coded r out ≡ code.told c out) ⌝ }
 {
@@ -90,12 +92,13 @@ fn coded_numbers(c: Coded) -> DmCoded
         Coded::Codes(n) => DmCoded {
             number: 0,
             count: n as u64,
+            place: 0,
         },
-        Coded::NotAPlate => coded_refusal(10),
-        Coded::NameTooLong => coded_refusal(1),
-        Coded::NotUtf8 => coded_refusal(2),
-        Coded::CharacterNotAllowed => coded_refusal(11),
-        Coded::RoomTooSmall => coded_refusal(12),
+        Coded::NotAPlate => coded_refusal(10, 0),
+        Coded::NameTooLong => coded_refusal(1, 0),
+        Coded::NotUtf8(place) => coded_refusal(2, place as u64),
+        Coded::CharacterNotAllowed(place) => coded_refusal(11, place as u64),
+        Coded::RoomTooSmall => coded_refusal(12, 0),
     }
 }
 

@@ -1,7 +1,7 @@
 //! One case: a call with its inputs and the length of the buffer lent to it, and whether its answer is right.
 
 use crate::calls::Calls;
-use judge::answers::{self, Call};
+use judge::answers::{self, Call, Refusal};
 use judge::codes::Walked;
 use judge::text::Fault;
 use judge::{plate, Content};
@@ -12,8 +12,8 @@ use zengilvar::{raw, LONGEST_LIST};
 /// What a text comes to: the plate and what it holds, or the refusal.
 pub type TextAnswer = Result<(Vec<u8>, Content), Fault>;
 
-/// What a name comes to: how it is walked, or the number of the refusal.
-pub type NameAnswer = Result<Walked, u64>;
+/// What a name comes to: how it is walked, or the refusal.
+pub type NameAnswer = Result<Walked, Refusal>;
 
 #[derive(Clone)]
 pub enum Rules {
@@ -147,7 +147,7 @@ pub fn code_differs(
         Call::List => calls.list(plate, name, buffer),
     };
     let (coded, told) = lend(lent, false, run, |_| right.codes.clone());
-    let wanted = raw::Coded { number: right.number, count: right.count };
+    let wanted = raw::Coded { number: right.number, count: right.count, place: right.place };
     if coded != wanted {
         return Some(format!("answered {coded:?}, right is {wanted:?}"));
     }

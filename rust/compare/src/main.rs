@@ -1,4 +1,4 @@
-//! Holds the archive beside the Rust and the scope paper: every number, line, length, count, written and unwritten byte.
+//! Holds the archive beside the Rust and the scope paper: every number, line, length, count, place, written and unwritten byte.
 //!
 //! `compare [TIMES] [SEED]`: TIMES as many random inputs as usual (1), from this seed (1).
 //! `compare control`: coders that are wrong on purpose in the archive's place, each of which must be noticed.

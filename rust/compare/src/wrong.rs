@@ -7,10 +7,11 @@ use crate::calls::Calls;
 use judge::codes::{allowed, once, BRANCHES, WHITE};
 use judge::{plate, text, Content, Rule};
 use std::cell::RefCell;
+use std::str::Utf8Error;
 use zengilvar::raw::{Built, Coded};
 
 /// Every mistake: its name, and what the coder does.
-pub const MISTAKES: [(&str, &str); 42] = [
+pub const MISTAKES: [(&str, &str); 47] = [
     ("length_rising", "sorts patterns of one letter by length rising"),
     ("text_order_reversed", "sorts patterns of one length against the text's order"),
     ("line_of_8", "tells one line more with refusal 8"),
@@ -22,6 +23,11 @@ pub const MISTAKES: [(&str, &str); 42] = [
     ("lower_d7", "lowers U+00D7"),
     ("lower_ascii", "lowers ASCII alone"),
     ("11_before_2", "refuses with 11 before 2"),
+    ("place_of_break", "tells the place of the byte that breaks a sequence"),
+    ("place_in_characters", "counts the place in characters"),
+    ("place_of_space", "tells the place of white space that a name may hold with 11"),
+    ("place_of_11_with_2", "tells with 2 the place of a character that is not allowed"),
+    ("place_with_1", "tells byte 256 with 1"),
     ("kept_nbsp", "does not drop U+00A0"),
     ("folded_twice", "folds what was folded"),
     ("room_65", "holds 65 branches"),
@@ -108,18 +114,44 @@ impl Wrong {
         content
     }
 
-    /// The characters of a name as they are coded, or its refusal.
-    fn source(&self, content: &Content, name: &[u8]) -> Result<Vec<char>, u64> {
+    /// The place where a name stops being UTF-8.
+    fn broken_at(&self, name: &[u8], broken: Utf8Error) -> usize {
+        let place = broken.valid_up_to();
+        let good = std::str::from_utf8(&name[..place]).expect("up to there it is UTF-8");
+        if self.is("place_of_break") {
+            return broken.error_len().map_or(name.len(), |wide| place + wide);
+        }
+        if self.is("place_in_characters") {
+            return good.chars().count();
+        }
+        match good.char_indices().find(|(_, c)| !allowed(*c)) {
+            Some((at, _)) if self.is("place_of_11_with_2") => at,
+            _ => place,
+        }
+    }
+
+    /// The place of the first character that a name may not hold.
+    fn strange_at(&self, text: &str) -> Option<usize> {
+        let strange = |c: char| !allowed(c) || self.is("place_of_space") && WHITE.contains(&c);
+        text.chars().find(|c| !allowed(*c))?;
+        if self.is("place_in_characters") {
+            return text.chars().position(strange);
+        }
+        text.char_indices().find(|(_, c)| strange(*c)).map(|(at, _)| at)
+    }
+
+    /// The characters of a name as they are coded, or its refusal and the place.
+    fn source(&self, content: &Content, name: &[u8]) -> Result<Vec<char>, (u64, usize)> {
         if name.len() > 256 {
-            return Err(1);
+            return Err((1, if self.is("place_with_1") { 256 } else { 0 }));
         }
         let lossy = String::from_utf8_lossy(name);
         if self.is("11_before_2") && lossy.chars().any(|c| c != '\u{FFFD}' && !allowed(c)) {
-            return Err(11);
+            return Err((11, 0));
         }
-        let text = std::str::from_utf8(name).map_err(|_| 2u64)?;
-        if !text.chars().all(allowed) {
-            return Err(11);
+        let text = std::str::from_utf8(name).map_err(|broken| (2, self.broken_at(name, broken)))?;
+        if let Some(place) = self.strange_at(text) {
+            return Err((11, place));
         }
         let kept = |c: &char| !WHITE.contains(c) || self.is("kept_nbsp") && *c == '\u{A0}';
         Ok(text.chars().filter(kept).map(|c| self.folded(content, self.lowered(c))).collect())
@@ -312,26 +344,27 @@ impl Wrong {
             false => BRANCHES.min((out.len() + 1) / 7),
         };
         let answer = || {
-            let content = self.content(plate).ok_or(10u64)?;
+            let content = self.content(plate).ok_or((10u64, 0))?;
             let source = self.source(&content, name)?;
             if !list && out.len() < 6 {
-                return Err(12);
+                return Err((12, 0));
             }
-            let codes = self.listed(self.walk(&content, &source, room, list)?);
+            let walked = self.walk(&content, &source, room, list).map_err(|number| (number, 0))?;
+            let codes = self.listed(walked);
             let joined = codes.join("|");
             if joined.len() > out.len() {
-                return Err(12);
+                return Err((12, 0));
             }
             Ok((joined, codes.len() as u64))
         };
         match answer() {
-            Err(number) => Coded { number, count: 0 },
+            Err((number, place)) => Coded { number, count: 0, place: place as u64 },
             Ok((joined, count)) => {
                 out[..joined.len()].copy_from_slice(joined.as_bytes());
                 if self.is("zero_behind_codes") && out.len() > joined.len() {
                     out[joined.len()] = 0;
                 }
-                Coded { number: 0, count }
+                Coded { number: 0, count, place: 0 }
             }
         }
     }

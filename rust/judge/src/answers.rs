@@ -1,4 +1,4 @@
-//! Whole answers: number, line or count, and the bytes written. The bytes behind them are as lent.
+//! Whole answers: number, line or count and place, and the bytes written. The bytes behind them are as lent.
 
 use crate::codes::{self, Walked, BRANCHES};
 use crate::{plate, text, Content};
@@ -20,7 +20,15 @@ pub struct Built {
 pub struct Coded {
     pub number: u64,
     pub count: u64,
+    pub place: u64,
     pub codes: Vec<u8>,
+}
+
+/// Why a name is not coded: the number, and the byte at which the fault begins (with 2 and 11; else 0).
+#[derive(Debug, Clone, Copy, PartialEq, Eq)]
+pub struct Refusal {
+    pub number: u64,
+    pub place: u64,
 }
 
 /// Encode or list.
@@ -45,15 +53,16 @@ pub fn build(text: &Result<(Vec<u8>, Content), text::Fault>, lent: usize) -> Bui
     }
 }
 
-/// What a name comes to under a plate, whatever the buffer: how it is walked, or the number of its refusal.
-pub fn name_answer(content: Option<&Content>, name: &[u8], call: Call) -> Result<Walked, u64> {
-    let content = content.ok_or(10u64)?;
+/// What a name comes to under a plate, whatever the buffer: how it is walked, or its refusal.
+pub fn name_answer(content: Option<&Content>, name: &[u8], call: Call) -> Result<Walked, Refusal> {
+    let refused = |number, place: usize| Refusal { number, place: place as u64 };
+    let content = content.ok_or(refused(10, 0))?;
     if name.len() > NAME {
-        return Err(1);
+        return Err(refused(1, 0));
     }
-    let name = std::str::from_utf8(name).map_err(|_| 2u64)?;
-    if !name.chars().all(codes::allowed) {
-        return Err(11);
+    let name = std::str::from_utf8(name).map_err(|broken| refused(2, broken.valid_up_to()))?;
+    if let Some((place, _)) = name.char_indices().find(|(_, c)| !codes::allowed(*c)) {
+        return Err(refused(11, place));
     }
     Ok(codes::walk(content, name, call == Call::List))
 }
@@ -64,12 +73,14 @@ pub fn room(lent: usize) -> usize {
 }
 
 /// What encode or list answers for a buffer of this length.
-pub fn code(name: &Result<Walked, u64>, lent: usize) -> Coded {
-    let refused = |number| Coded { number, count: 0, codes: Vec::new() };
+pub fn code(name: &Result<Walked, Refusal>, lent: usize) -> Coded {
+    let refused = |number, place| Coded { number, count: 0, place, codes: Vec::new() };
     match name {
-        Err(number) => refused(*number),
-        Ok(walked) if walked.longest > room(lent) => refused(12),
-        Ok(walked) => Coded { number: 0, count: walked.codes.len() as u64, codes: walked.codes.join("|").into_bytes() },
+        Err(refusal) => refused(refusal.number, refusal.place),
+        Ok(walked) if walked.longest > room(lent) => refused(12, 0),
+        Ok(walked) => {
+            Coded { number: 0, count: walked.codes.len() as u64, place: 0, codes: walked.codes.join("|").into_bytes() }
+        }
     }
 }
 

@@ -1,6 +1,6 @@
 //! The coder and its builder.
 
-use crate::{raw, Cause, Encoder, PhoneticError, LONGEST_LIST, LONGEST_PLATE};
+use crate::{raw, Encoder, PhoneticError, Refusal, LONGEST_LIST, LONGEST_PLATE};
 
 /// The standard rules, as rule text.
 const STANDARD_RULES: &str = include_str!("../../../rules/daitch-mokotoff.txt");
@@ -62,7 +62,7 @@ impl DaitchMokotoffSoundex {
     pub fn with_plate(plate: Vec<u8>) -> Result<Self, PhoneticError> {
         match raw::is_plate(&plate) {
             true => Ok(Self { plate }),
-            false => Err(PhoneticError::Refused(Cause::NotAPlate)),
+            false => Err(PhoneticError::Refused(Refusal::of_plate())),
         }
     }
 
@@ -98,7 +98,7 @@ impl Encoder for DaitchMokotoffSoundex {
 fn answered(coded: raw::Coded) -> Result<usize, PhoneticError> {
     match coded.number {
         0 => Ok(coded.count as usize),
-        number => Err(PhoneticError::Refused(Cause::of(number))),
+        _ => Err(PhoneticError::Refused(Refusal::of_name(coded))),
     }
 }
 

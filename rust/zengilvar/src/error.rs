@@ -29,7 +29,30 @@ pub enum PhoneticError {
     /// The rule text is refused.
     ParseRuleError(ParseError),
     /// The name is refused, or the plate.
-    Refused(Cause),
+    Refused(Refusal),
+}
+
+/// A name or a plate that is refused.
+#[derive(Debug, Clone, Copy, PartialEq, Eq, PartialOrd, Ord, Hash)]
+#[non_exhaustive]
+pub struct Refusal {
+    /// The refusal.
+    pub cause: Cause,
+    /// The byte of the name at which the first character begins that no name may hold, or the first sequence that is not
+    /// UTF-8; none where the refusal is not about one.
+    pub place: Option<usize>,
+}
+
+impl Refusal {
+    pub(crate) fn of_plate() -> Self {
+        Self { cause: Cause::NotAPlate, place: None }
+    }
+
+    pub(crate) fn of_name(coded: raw::Coded) -> Self {
+        let cause = Cause::of(coded.number);
+        let placed = matches!(cause, Cause::NotText | Cause::CharacterNotAllowed);
+        Self { cause, place: placed.then_some(coded.place as usize) }
+    }
 }
 
 impl PhoneticError {
@@ -37,7 +60,15 @@ impl PhoneticError {
     pub fn cause(&self) -> Cause {
         match self {
             Self::ParseRuleError(error) => error.cause,
-            Self::Refused(cause) => *cause,
+            Self::Refused(refusal) => refusal.cause,
+        }
+    }
+
+    /// The byte of the name at which its fault begins.
+    pub fn place(&self) -> Option<usize> {
+        match self {
+            Self::ParseRuleError(_) => None,
+            Self::Refused(refusal) => refusal.place,
         }
     }
 
@@ -61,11 +92,20 @@ impl fmt::Display for ParseError {
     }
 }
 
+impl fmt::Display for Refusal {
+    fn fmt(&self, f: &mut fmt::Formatter<'_>) -> fmt::Result {
+        match self.place {
+            None => write!(f, "{}", self.cause),
+            Some(place) => write!(f, "{}, at byte {place}", self.cause),
+        }
+    }
+}
+
 impl fmt::Display for PhoneticError {
     fn fmt(&self, f: &mut fmt::Formatter<'_>) -> fmt::Result {
         match self {
             Self::ParseRuleError(error) => write!(f, "Error parsing rule file {error}"),
-            Self::Refused(cause) => write!(f, "Refused with {cause}"),
+            Self::Refused(refusal) => write!(f, "Refused with {refusal}"),
         }
     }
 }

@@ -27,7 +27,7 @@ pub mod raw;
 pub use cause::Cause;
 pub use daitch_mokotoff::{DaitchMokotoffSoundex, DaitchMokotoffSoundexBuilder};
 pub use encoder::Encoder;
-pub use error::{ParseError, PhoneticError};
+pub use error::{ParseError, PhoneticError, Refusal};
 
 /// The longest rule text, in bytes.
 pub const LONGEST_TEXT: usize = 65_536;

@@ -8,8 +8,15 @@ fn coder(text: &str) -> DaitchMokotoffSoundex {
     DaitchMokotoffSoundexBuilder::with_rules(text).build().expect("a good text")
 }
 
-fn refused(cause: Cause) -> Option<PhoneticError> {
-    Some(PhoneticError::Refused(cause))
+/// A refusal: its cause, and the byte of the name at which the fault begins.
+type Told = Option<(Cause, Option<usize>)>;
+
+fn refused(cause: Cause) -> Told {
+    Some((cause, None))
+}
+
+fn told<T>(answer: Result<T, PhoneticError>) -> Told {
+    answer.err().map(|error| (error.cause(), error.place()))
 }
 
 #[test]
@@ -64,30 +71,61 @@ fn a_plate_is_checked_when_taken() {
     let mut longer = small.plate().to_vec();
     longer.push(0);
     for bytes in [vec![], vec![2], longer, SMALL.as_bytes().to_vec()] {
-        assert_eq!(DaitchMokotoffSoundex::with_plate(bytes).err(), refused(Cause::NotAPlate));
+        assert_eq!(told(DaitchMokotoffSoundex::with_plate(bytes)), refused(Cause::NotAPlate));
     }
 }
 
 #[test]
 fn refused_names() {
     let small = coder(SMALL);
-    for (name, cause) in [
-        ("r".repeat(257).as_str(), Cause::TooLong),
-        ("\u{180}", Cause::CharacterNotAllowed),
-        ("cacacacacacac", Cause::RoomTooSmall),
-        ("cacacacacacaca", Cause::RoomTooSmall),
+    for (name, cause, place) in [
+        ("r".repeat(257).as_str(), Cause::TooLong, None),
+        ("\u{180}", Cause::CharacterNotAllowed, Some(0)),
+        ("ab\u{180}", Cause::CharacterNotAllowed, Some(2)),
+        ("\u{2003}\u{436}", Cause::CharacterNotAllowed, Some(3)),
+        ("cacacacacacac", Cause::RoomTooSmall, None),
+        ("cacacacacacaca", Cause::RoomTooSmall, None),
     ] {
-        assert_eq!(small.soundex(name).err(), refused(cause), "{name}");
-        assert_eq!(small.inner_soundex(name, true).err(), refused(cause), "{name}");
+        let refused = Some((cause, place));
+        assert_eq!(told(small.soundex(name)), refused, "{name}");
+        assert_eq!(told(small.inner_soundex(name, true)), refused, "{name}");
         if cause != Cause::RoomTooSmall {
-            assert_eq!(small.encode(name).err(), refused(cause), "{name}");
-            assert_eq!(small.inner_soundex(name, false).err(), refused(cause), "{name}");
-            assert_eq!(small.is_encoded_equals("r", name).err(), refused(cause), "{name}");
-            assert_eq!(small.is_encoded_equals(name, "r").err(), refused(cause), "{name}");
+            assert_eq!(told(small.encode(name)), refused, "{name}");
+            assert_eq!(told(small.inner_soundex(name, false)), refused, "{name}");
+            assert_eq!(told(small.is_encoded_equals("r", name)), refused, "{name}");
+            assert_eq!(told(small.is_encoded_equals(name, "r")), refused, "{name}");
         }
     }
     assert_eq!(small.is_encoded_equals("mn", "nm"), Ok(true));
     assert_eq!(small.is_encoded_equals("mn", "mm"), Ok(false));
+}
+
+#[test]
+fn refusals_in_words() {
+    let words = |name: &str| coder(SMALL).encode(name).map_err(|error| error.to_string());
+    let strange = "Refused with 11: a character that is neither white space nor below U+0180, at byte 2";
+    assert_eq!(words("ab\u{180}"), Err(strange.to_string()));
+    let long = "Refused with 1: the rule text has over 65,536 bytes, or the name over 256";
+    assert_eq!(words(&"r".repeat(257)), Err(long.to_string()));
+}
+
+/// What the wrapper, which takes text alone, never meets: broken bytes.
+#[test]
+fn broken_names() {
+    let small = coder(SMALL);
+    let cut = [&[b'r'; 255][..], b"\xC3"].concat();
+    for (name, place) in [
+        (&b"a\xE2\x82a"[..], 1),
+        (b"\xC6\x80\xFF", 2),
+        (b"rr\xED\xA0\x80", 2),
+        (b"\xC3", 0),
+        (&cut, 255),
+    ] {
+        let refused = raw::Coded { number: 2, count: 0, place };
+        let mut out = [0xEE; 6];
+        assert_eq!((raw::list(small.plate(), name, &mut out), out), (refused, [0xEE; 6]), "{name:?}");
+        assert_eq!((raw::encode(small.plate(), name, &mut out), out), (refused, [0xEE; 6]), "{name:?}");
+    }
 }
 
 #[test]
@@ -135,11 +173,11 @@ fn raw_calls() {
     assert_eq!(short, [0xEE; 8]);
     let small = coder(SMALL);
     let mut out = [0xEE; 8];
-    assert_eq!(raw::encode(small.plate(), b"mm", &mut out), raw::Coded { number: 0, count: 1 });
+    assert_eq!(raw::encode(small.plate(), b"mm", &mut out), raw::Coded { number: 0, count: 1, place: 0 });
     assert_eq!(&out, b"600000\xEE\xEE");
     let mut out = [0xEE; 54];
-    assert_eq!(raw::list(small.plate(), b"Rosochowaciec", &mut out), raw::Coded { number: 12, count: 0 });
+    assert_eq!(raw::list(small.plate(), b"Rosochowaciec", &mut out), raw::Coded { number: 12, count: 0, place: 0 });
     assert_eq!(out, [0xEE; 54]);
-    assert_eq!(raw::list(small.plate(), b"\xFF", &mut out), raw::Coded { number: 2, count: 0 });
+    assert_eq!(raw::list(small.plate(), b"r\xFF", &mut out), raw::Coded { number: 2, count: 0, place: 1 });
     assert!(raw::is_plate(small.plate()) && !raw::is_plate(&[]));
 }

@@ -1,7 +1,7 @@
 //! The wrapper says what include/zengilvar.h says: numbers, words, constants, version, layout.
 
 use std::mem::{offset_of, size_of};
-use zengilvar::{raw, Cause, PhoneticError, LONGEST_LIST, LONGEST_NAME, LONGEST_PLATE, LONGEST_TEXT};
+use zengilvar::{raw, Cause, LONGEST_LIST, LONGEST_NAME, LONGEST_PLATE, LONGEST_TEXT};
 
 const HEADER: &str = include_str!("../../../include/zengilvar.h");
 
@@ -46,8 +46,6 @@ fn numbers_and_words() {
     for (cause, number, name, words) in CAUSES {
         assert_eq!((cause.number(), cause.words()), (number, words));
         assert_eq!(cause.to_string(), format!("{number}: {words}"));
-        assert_eq!(PhoneticError::Refused(cause).to_string(), format!("Refused with {number}: {words}"));
-        assert_eq!(PhoneticError::Refused(cause).cause(), cause);
         assert_eq!(behind(&format!(" DM_{name} = "), &[',', '\n']), number.to_string());
         assert_eq!(behind(&format!("case DM_{name}: return \""), &['"']), words);
     }
@@ -67,9 +65,7 @@ fn constants() {
 /// As tests/c/words.c says of the header's own.
 #[test]
 fn layout() {
-    assert_eq!((size_of::<raw::Built>(), size_of::<raw::Coded>()), (24, 16));
-    assert_eq!(
-        (offset_of!(raw::Built, line), offset_of!(raw::Built, length), offset_of!(raw::Coded, count)),
-        (8, 16, 8)
-    );
+    assert_eq!((size_of::<raw::Built>(), size_of::<raw::Coded>()), (24, 24));
+    assert_eq!((offset_of!(raw::Built, line), offset_of!(raw::Built, length)), (8, 16));
+    assert_eq!((offset_of!(raw::Coded, count), offset_of!(raw::Coded, place)), (8, 16));
 }

@@ -54,7 +54,7 @@ fn the_longest_list() {
     let mut out = [0xEE; LONGEST_LIST];
     let less = LONGEST_LIST - 1;
     let refused = raw::list(small().plate(), b"cacacacacaca", &mut out[..less]);
-    assert_eq!((refused, out), (raw::Coded { number: 12, count: 0 }, [0xEE; LONGEST_LIST]));
+    assert_eq!((refused, out), (raw::Coded { number: 12, count: 0, place: 0 }, [0xEE; LONGEST_LIST]));
     let listed = raw::list(small().plate(), b"cacacacacaca", &mut out);
-    assert_eq!((listed, &out[..]), (raw::Coded { number: 0, count: 64 }, wanted.join("|").as_bytes()));
+    assert_eq!((listed, &out[..]), (raw::Coded { number: 0, count: 64, place: 0 }, wanted.join("|").as_bytes()));
 }

@@ -1,4 +1,4 @@
--- `coded_numbers` meets its contract: 01's number and count of each answer, whatever the buffer. Assumes nothing.
+-- `coded_numbers` meets its contract: 01's number, count and place of each answer, whatever the buffer. Assumes nothing.
 use Prim.Native.Nat.{ℕ}
 use mathlib.Core.Path.{_≡_, refl, sym, ap, _∙_}
 use mathlib.Core.List.{List}
@@ -29,20 +29,20 @@ enum-told-2 c = search needs
 coded-refusal-requires-2 : tie.Need-coded-refusal-requires-2
 coded-refusal-requires-2 c κs = search needs
 
-enum-told-3 : tie.Need-enum-told-3
-enum-told-3 c = search needs
+enum-known-c-2 : tie.Need-enum-known-c-2
+enum-known-c-2 c = search needs
 
 coded-refusal-requires-3 : tie.Need-coded-refusal-requires-3
 coded-refusal-requires-3 c κs = search needs
 
-enum-told-4 : tie.Need-enum-told-4
-enum-told-4 c = search needs
+enum-known-c-3 : tie.Need-enum-known-c-3
+enum-known-c-3 c = search needs
 
 coded-refusal-requires-4 : tie.Need-coded-refusal-requires-4
 coded-refusal-requires-4 c κs = search needs
 
-enum-told-5 : tie.Need-enum-told-5
-enum-told-5 c = search needs
+enum-told-3 : tie.Need-enum-told-3
+enum-told-3 c = search needs
 
 coded-refusal-requires-5 : tie.Need-coded-refusal-requires-5
 coded-refusal-requires-5 c κs = search needs
@@ -57,13 +57,13 @@ returns-3 : tie.Need-returns-3
 returns-3 c = λ out. refused _ _ _ _ (c .coded-refusal2 .ensures) (c .before .enum-told2 .given .1) out refl
 
 returns-4 : tie.Need-returns-4
-returns-4 c = λ out. refused _ _ _ _ (c .coded-refusal3 .ensures) (c .before .enum-told3 .given .1) out refl
+returns-4 c = λ out. refused _ _ _ _ (c .coded-refusal3 .ensures) (c .before .before .c2 .given .1) out refl
 
 returns-5 : tie.Need-returns-5
-returns-5 c = λ out. refused _ _ _ _ (c .coded-refusal4 .ensures) (c .before .enum-told4 .given .1) out refl
+returns-5 c = λ out. refused _ _ _ _ (c .coded-refusal4 .ensures) (c .before .before .c3 .given .1) out refl
 
 returns-6 : tie.Need-returns-6
-returns-6 c = λ out. refused _ _ _ _ (c .coded-refusal5 .ensures) (c .before .enum-told5 .given .1) out refl
+returns-6 c = λ out. refused _ _ _ _ (c .coded-refusal5 .ensures) (c .before .enum-told3 .given .1) out refl
 
 pub coded-numbers-spec : {M : Type 1} → statement M
 coded-numbers-spec =
@@ -74,11 +74,11 @@ coded-numbers-spec =
     coded-refusal-requires
     enum-told-2
     coded-refusal-requires-2
-    enum-told-3
+    enum-known-c-2
     coded-refusal-requires-3
-    enum-told-4
+    enum-known-c-3
     coded-refusal-requires-4
-    enum-told-5
+    enum-told-3
     coded-refusal-requires-5
     returns
     returns-2

@@ -1,9 +1,11 @@
-/// What `encode` and `list` answer: number (0 if answered), count of codes (0 if refused).
+/// What `encode` and `list` answer: number (0 if answered), count of codes (0 if refused), and the byte of the name at
+/// which its fault begins (with 2 and 11; else 0).
 #[repr(C)]
 #[derive(Debug, Clone, Copy, PartialEq, Eq)]
 pub struct Coded {
     pub number: u64,
     pub count: u64,
+    pub place: u64,
 }
 
 extern "C" {

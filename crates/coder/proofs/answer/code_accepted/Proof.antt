@@ -19,14 +19,14 @@ prepare-requires c κs = search needs
 enum-told : tie.Need-enum-told
 enum-told c = search needs
 
+enum-known-fault : tie.Need-enum-known-fault
+enum-known-fault c = search needs
+
+enum-known-fault-2 : tie.Need-enum-known-fault-2
+enum-known-fault-2 c = search needs
+
 enum-told-2 : tie.Need-enum-told-2
 enum-told-2 c = search needs
-
-enum-told-3 : tie.Need-enum-told-3
-enum-told-3 c = search needs
-
-enum-told-4 : tie.Need-enum-told-4
-enum-told-4 c = search needs
 
 array-share-prefix-chars : tie.Need-array-share-prefix-chars
 array-share-prefix-chars c = search needs
@@ -50,17 +50,17 @@ returns c =
 
 returns-2 : tie.Need-returns-2
 returns-2 c =
-    let prepared = c .before .before in
+    let prepared = c .before .before .before in
     let known = prepared .before .before .before .before in
     let a = known .before .before .before .before .args in
-    by-name (listedTo (a .most)) (plateAt (edition1 .width) (a .plate .now)) (a .name .now) (a .out .now) _ (rw (c .enum-told2 .given .1) at (prepared .prepare .ensures .is))
+    by-name (listedTo (a .most)) (plateAt (edition1 .width) (a .plate .now)) (a .name .now) (a .out .now) _ (rw (c .before .fault .given .1) at (prepared .prepare .ensures .is))
 
 returns-3 : tie.Need-returns-3
 returns-3 c =
-    let prepared = c .before .before in
+    let prepared = c .before .before .before in
     let known = prepared .before .before .before .before in
     let a = known .before .before .before .before .args in
-    by-name (listedTo (a .most)) (plateAt (edition1 .width) (a .plate .now)) (a .name .now) (a .out .now) _ (rw (c .enum-told3 .given .1) at (prepared .prepare .ensures .is))
+    by-name (listedTo (a .most)) (plateAt (edition1 .width) (a .plate .now)) (a .name .now) (a .out .now) _ (rw (c .before .fault2 .given .1) at (prepared .prepare .ensures .is))
 
 same-length : tie.Need-same-length
 same-length c = search needs
@@ -73,7 +73,7 @@ returns-4 c =
     let known = prepared .before .before .before .before in
     let a = known .before .before .before .before .args in
     coded .code-chars .ensures
-    ∙ by-name (listedTo (a .most)) (plateAt (edition1 .width) (a .plate .now)) (a .name .now) (a .out .now) _ (rw (told .enum-told4 .given .1) at (prepared .prepare .ensures .is))
+    ∙ by-name (listedTo (a .most)) (plateAt (edition1 .width) (a .plate .now)) (a .name .now) (a .out .now) _ (rw (told .enum-told2 .given .1) at (prepared .prepare .ensures .is))
 
 pub code-accepted-spec : {M : Type 1} → statement M
 code-accepted-spec =
@@ -82,9 +82,9 @@ code-accepted-spec =
     lowers-requires
     prepare-requires
     enum-told
+    enum-known-fault
+    enum-known-fault-2
     enum-told-2
-    enum-told-3
-    enum-told-4
     array-share-prefix-chars
     slice-aggregate-code-chars
     code-chars-requires

@@ -1,21 +1,24 @@
--- `fault_place` ends: each turn takes a character. Assumes nothing.
+-- `last_shown` ends: each turn takes a character. Assumes nothing.
 use Prim.Native.Nat.{_≤_, _-_}
 use borrow.Author.Needs.{needs}
 use lib.ListN.{length}
-use Rattle.front.proofs.words.fault_place.Statement.{statement}
-use Rattle.front.proofs.words.fault_place.Tie as tie
+use Rattle.front.proofs.caret.last_shown.Statement.{statement}
+use Rattle.front.proofs.caret.last_shown.Tie as tie
 
 abbrev Inv-loop : tie.InvT-loop
-Inv-loop name number at₀ at = at ≤ length name
+Inv-loop name from n₀ at₀ n at = 0 ≤ at
 
 abbrev μ-loop : tie.MeasureT-loop
-μ-loop name number at₀ at = length name - at
+μ-loop name from n₀ at₀ n at = length name - at
 
 loop-holds : tie.Need-loop-holds Inv-loop μ-loop
 loop-holds c = search needs
 
-is-fault-requires : tie.Need-is-fault-requires Inv-loop μ-loop
-is-fault-requires c κs = search needs
+columns-at-requires : tie.Need-columns-at-requires Inv-loop μ-loop
+columns-at-requires c κs = search needs
+
+wrapping-add-usize-requires : tie.Need-wrapping-add-usize-requires Inv-loop μ-loop
+wrapping-add-usize-requires c κs = search needs
 
 returns : tie.Need-returns Inv-loop μ-loop
 returns c = search needs
@@ -32,14 +35,15 @@ loop-again c = search needs
 returns-2 : tie.Need-returns-2 Inv-loop μ-loop
 returns-2 c = search needs
 
-pub fault-place-spec : {M : Type 1} → statement M
-fault-place-spec =
+pub last-shown-spec : {M : Type 1} → statement M
+last-shown-spec =
     tie.close
     (tie.spec
     Inv-loop
     μ-loop
     loop-holds
-    is-fault-requires
+    columns-at-requires
+    wrapping-add-usize-requires
     returns
     next-char-requires
     loop-less
