@@ -83,7 +83,8 @@ static inline const char *dm_words(uint64_t number) {
     }
 }
 
-/* number: as above. line: of the item that is refused by 3 to 8, counted by items, else 0. length: bytes of the plate, 0 if refused. */
+/* number: as above. line: with 3 to 8 that of the refused item's first byte, 1 plus the newlines before it, else 0.
+   length: bytes of the plate, 0 if refused. */
 typedef struct {
     uint64_t number;
     uint64_t line;

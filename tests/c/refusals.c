@@ -6,9 +6,24 @@ static void of_build(void) {
     build_refused("\n\0", 2, 512, DM_NOT_TEXT, 0);
     build_refused("\n\nx\n", 4, 512, DM_NOT_RECOGNISED, 3);
     build_refused("\"\" \"1\" \"1\" \"1\"", 14, 512, DM_EMPTY_PATTERN, 1);
-    build_refused("/* x */\n\"a\" \"1\" \"x\" \"1\"", 23, 512, DM_NOT_DIGITS, 3);
+    build_refused("/* x */\n\"a\" \"1\" \"x\" \"1\"", 23, 512, DM_NOT_DIGITS, 2);
     build_refused(S, strlen(S), plate_len - 1, DM_SHORT_BUFFER, 0);
     build_refused(S, strlen(S), plate_len, DM_ANSWERED, 0);
+}
+
+/* The line is 1 plus the newlines before the item's first byte, wherever they stand; those inside the item do not count. */
+static void of_lines(void) {
+    static char text[DM_TEXT_MOST];
+    build_refused("/* */\nx", 7, 512, DM_NOT_RECOGNISED, 2);
+    build_refused("\n=x\n?", 5, 512, DM_NOT_RECOGNISED, 3);
+    build_refused("\"a\nb\" \"\" \"\" \"\"\n?", 16, 512, DM_NOT_RECOGNISED, 3);
+    build_refused("a=\n\n?", 5, 512, DM_NOT_RECOGNISED, 3);
+    build_refused("/* \n\n */\n\n\"\" \"\" \"\" \"\"\n", 22, 512, DM_EMPTY_PATTERN, 5);
+    build_refused("\"a\" \"1\n\" \"\" \"\"\n", 15, 512, DM_NOT_DIGITS, 1);
+    build_refused("\r\n\r\n?", 5, 512, DM_NOT_RECOGNISED, 3);
+    memset(text, '\n', sizeof text);
+    text[DM_TEXT_MOST - 1] = 'x';
+    build_refused(text, sizeof text, 512, DM_NOT_RECOGNISED, DM_TEXT_MOST);
 }
 
 static void of_names(void) {
@@ -46,6 +61,7 @@ static void of_null(void) {
 
 void refusals(void) {
     of_build();
+    of_lines();
     of_names();
     of_null();
 }

@@ -13,8 +13,8 @@ use lib.Seq.{take-append-seam}
 use Rattle.laws.specs.Lists.{every, onto, splitAt}
 use Rattle.laws.proofs.Tests.{and-true, both-true, by-test, is-between}
 use Rattle.chars.specs.Utf8.{isText}
-use Rattle.rule_text.specs.Items.{Item, items, firstLine, lineBehind}
-use Rattle.rule_text.specs.Items.Item.{RuleItem, FoldingItem, LineEndItem, CommentItem, UnknownItem}
+use Rattle.rule_text.specs.Items.{Saying, Item, items}
+use Rattle.rule_text.specs.Items.Saying.{RuleItem, FoldingItem, LineEndItem, CommentItem, UnknownItem}
 use Rattle.rule_text.specs.Fields.{bar, alternatives, fieldFault}
 use Rattle.rule_text.proofs.Clean.{Clean, AllClean, items-clean}
 use Rattle.plate.specs.Plate.{Folding, Rule, edition1, mostFoldings, goodField, nonzeroByte, goodRule, goodFolding, rising, ordered, goodFoldings, goodRules, goodPlate}
@@ -71,7 +71,7 @@ foldings-good f l g h k =
     let b = and-true (every goodFolding l) (rising l) (a .1) in
     both-true (le-leb (length (putFolding f l)) 128 h) (both-true (put-each goodFolding f l g (b .0)) (put-rising f l (b .1)))
 
-enter-good : (i : Item) (b : Book) → Clean nonzeroByte i → fault i b ≡ 0 → Good b → Good (enter i b)
+enter-good : (i : Saying) (b : Book) → Clean nonzeroByte i → fault i b ≡ 0 → Good b → Good (enter i b)
 enter-good (RuleItem p s v o) b c e g = let r = rule-good p s v o (length (b .rules)) c e in (rules-good (ruleOf p s v o) (b .rules) (r .0) (r .1) (g .0), g .1)
 enter-good (FoldingItem key target) b c e g =
     let f = foldingOf key target in
@@ -82,20 +82,20 @@ enter-good (FoldingItem key target) b c e g =
           (ltb-false mostFoldings n (not-when (ltb mostFoldings n) 8 (lit< tt) e)) (g .1),
     )
 enter-good LineEndItem b c e g = g
-enter-good (CommentItem newlines) b c e g = g
+enter-good CommentItem b c e g = g
 enter-good UnknownItem b c e g = absurd (omega arith)
 
 -- A verdict is a good book, or a fault with its number.
 abbrev Fair : Verdict → Type 0
-Fair (Faulty number line) = number ≡ 0 → ⊥
+Fair (Faulty number place) = number ≡ 0 → ⊥
 Fair (Fine b) = Good b
 
-verdict-fair : (line : ℕ) (b : Book) (is : List Item) → AllClean nonzeroByte is → Good b → Fair (verdict line b is)
+verdict-fair : (b : Book) (is : List Item) → AllClean nonzeroByte is → Good b → Fair (verdict b is)
 unfolding verdict
-verdict-fair line b [] c g = g
-verdict-fair line b (i ∷ more) c g = go (fault i b) (λ e. verdict-fair (lineBehind line i) (enter i b) more (c .1) (enter-good i b (c .0) e g))
+verdict-fair b [] c g = g
+verdict-fair b (i ∷ more) c g = go (fault (i .saying) b) (λ e. verdict-fair (enter (i .saying) b) more (c .1) (enter-good (i .saying) b (c .0) e g))
   where
-    go : (n : ℕ) → (n ≡ 0 → Fair (verdict (lineBehind line i) (enter i b) more)) → Fair (unless n line (verdict (lineBehind line i) (enter i b) more))
+    go : (n : ℕ) → (n ≡ 0 → Fair (verdict (enter (i .saying) b) more)) → Fair (unless n (i .place) (verdict (enter (i .saying) b) more))
     go zero f = f refl
     go (suc n) f = λ e. omega arith
 
@@ -106,15 +106,15 @@ bytes-nonzero (x ∷ xs) b h =
     let above = ltb-true 0 x (a .0) in
     let below = b .0 in both-true (is-between 1 255 x (omega arith) (omega arith)) (bytes-nonzero xs (b .1) (a .1))
 
-text-fair : (text : List ℕ) → Bytes text → isText text && every nonzero text ≡ true → Fair (verdict firstLine blank (items text))
+text-fair : (text : List ℕ) → Bytes text → isText text && every nonzero text ≡ true → Fair (verdict blank (items text))
 text-fair text bytes h =
     let a = and-true (isText text) (every nonzero text) h in
-    verdict-fair firstLine blank (items text) (items-clean nonzeroByte refl text (a .0) (bytes-nonzero text bytes (a .1))) (refl, refl)
+    verdict-fair blank (items text) (items-clean nonzeroByte refl text (a .0) (bytes-nonzero text bytes (a .1))) (refl, refl)
 
 -- ---- the plate that a text says
 
 -- A text without fault says a good plate.
-pub build-good : (text : List ℕ) → Bytes text → isText text && every nonzero text ≡ true → (b : Book) → verdict firstLine blank (items text) ≡ Fine b
+pub build-good : (text : List ℕ) → Bytes text → isText text && every nonzero text ≡ true → (b : Book) → verdict blank (items text) ≡ Fine b
     → (flag : Bool) → goodPlate edition1 (plateOf flag b) ≡ true
 build-good text bytes h b e flag = let g = subst Fair e (text-fair text bytes h) in both-true (g .0) (g .1)
 
@@ -123,7 +123,7 @@ abbrev pub Accepted : List ℕ → Bool → Built → Type 0
 Accepted text flag a =
     a .number ≡ 0
     → (b : Book)
-    × (verdict firstLine blank (items text) ≡ Fine b)
+    × (verdict blank (items text) ≡ Fine b)
     × (acceptedIn edition1 (take (a .length) (a .buffer)) ≡ true)
     × (readPlate (take (a .length) (a .buffer)) ≡ some (plateOf flag b))
 
@@ -133,10 +133,10 @@ unfolding buildAnswer
 build-accepted text flag lent bytes =
     by-test (Accepted text flag) (ltb 65536 (length text)) (refusal 1 0 lent) _ (λ e n. absurd (omega arith)) λ e.
     by-test (Accepted text flag) (isText text && every nonzero text) _ (refusal 2 0 lent)
-    (λ h. go (verdict firstLine blank (items text)) refl (text-fair text bytes h)) (λ h n. absurd (omega arith))
+    (λ h. go (verdict blank (items text)) refl (text-fair text bytes h)) (λ h n. absurd (omega arith))
   where
-    go : (v : Verdict) → verdict firstLine blank (items text) ≡ v → Fair v → Accepted text flag (answered flag lent v)
-    go (Faulty number line) e f = λ n. absurd (f n)
+    go : (v : Verdict) → verdict blank (items text) ≡ v → Fair v → Accepted text flag (answered text flag lent v)
+    go (Faulty number place) e f = λ n. absurd (f n)
     go (Fine b) e f =
         let p = plateOf flag b in
         let s = plateBytes edition1 p in

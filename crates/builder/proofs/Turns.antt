@@ -14,8 +14,8 @@ use Rattle.laws.proofs.Lists.{rest}
 use Rattle.laws.proofs.Parts.{lent, lent-length, known}
 use Rattle.chars.specs.Utf8.{charOf, codeOf}
 use Rattle.rule_text.specs.Forms.{entry}
-use Rattle.rule_text.specs.Items.{Item, said, taken, items, lineBehind}
-use Rattle.rule_text.specs.Items.Item.{RuleItem, FoldingItem, UnknownItem}
+use Rattle.rule_text.specs.Items.{Item, said, taken, itemOf, itemsAt}
+use Rattle.rule_text.specs.Items.Saying.{RuleItem, FoldingItem}
 use Rattle.rule_text.specs.Answers.{Lies}
 use Rattle.rule_text.specs.declared.Entry.{Entry}
 use Rattle.rule_text.specs.declared.Entry.the-variants as E
@@ -40,44 +40,42 @@ use Rattle.builder.proofs.Keys.{key-place, all-later, all-insert, put-v
 
 -- ---- the verdict, one item at a time
 
-stopped : (n line : ℕ) (v : Verdict) (w : Fault) → n ≡ numberOf w → unless n line v ≡ Faulty (numberOf w) line
-stopped zero line v w e = absurd (numbered w (sym e))
-stopped (suc n) line v w e = ap (λ (m : ℕ). Faulty m line) e
+stopped : (n place : ℕ) (v : Verdict) (w : Fault) → n ≡ numberOf w → unless n place v ≡ Faulty (numberOf w) place
+stopped zero place v w e = absurd (numbered w (sym e))
+stopped (suc n) place v w e = ap (λ (m : ℕ). Faulty m place) e
 
-unstopped : (n line : ℕ) (v : Verdict) → n ≡ 0 → unless n line v ≡ v
-unstopped zero line v e = refl
-unstopped (suc n) line v e = absurd (omega arith)
+unstopped : (n place : ℕ) (v : Verdict) → n ≡ 0 → unless n place v ≡ v
+unstopped zero place v e = refl
+unstopped (suc n) place v e = absurd (omega arith)
 
-module _ (line : ℕ) (b : Book) (i : Item) (more is : List Item) (e : is ≡ i ∷ more) where
-  verdict-stop : (w : Fault) → fault i b ≡ numberOf w → verdict line b is ≡ Faulty (numberOf w) line
+module _ (b : Book) (i : Item) (more is : List Item) (e : is ≡ i ∷ more) where
+  verdict-stop : (w : Fault) → fault (i .saying) b ≡ numberOf w → verdict b is ≡ Faulty (numberOf w) (i .place)
   unfolding verdict
-  verdict-stop w f = ap (verdict line b) e ∙ stopped (fault i b) line (verdict (lineBehind line i) (enter i b) more) w f
+  verdict-stop w f = ap (verdict b) e ∙ stopped (fault (i .saying) b) (i .place) (verdict (enter (i .saying) b) more) w f
 
-  verdict-on : fault i b ≡ 0 → verdict (lineBehind line i) (enter i b) more ≡ verdict line b is
+  verdict-on : fault (i .saying) b ≡ 0 → verdict (enter (i .saying) b) more ≡ verdict b is
   unfolding verdict
-  verdict-on f = sym (ap (verdict line b) e ∙ unstopped (fault i b) line (verdict (lineBehind line i) (enter i b) more) f)
+  verdict-on f = sym (ap (verdict b) e ∙ unstopped (fault (i .saying) b) (i .place) (verdict (enter (i .saying) b) more) f)
 
 -- ---- no number of the tally grows too large behind an item
 
 pub bounded : {text keys foldings : List ℕ} (tally : Tally) (next : ℕ) → Kept text tally keys foldings → tally .at < length text → next ≤ length (lent (tally .at) text)
-    → (tally .at < 65536) × (next ≤ 65536) × (tally .line ≤ 200000) × (tally .bits ≤ 2000000)
+    → (tally .at < 65536) × (next ≤ 65536) × (tally .bits ≤ 2000000)
 bounded {text = text} tally next k h n =
     let len = lent-length (tally .at) text in (
       omega (arith, k .short),
       omega (arith, k .short),
-      omega (arith, k .short, k .lines),
       omega (arith, k .few, k .fewBits),
     )
 
 -- ---- the start and the end
 
 pub survey-start : (text keys foldings : List ℕ) → length text ≤ 65536 → length keys ≡ 512 → length foldings ≡ 128
-    → Kept text (record { at = 0; line = 1; rules = 0; foldings = 0; bits = 0 }) keys foldings
+    → Kept text (record { at = 0; rules = 0; foldings = 0; bits = 0 }) keys foldings
 survey-start text keys foldings h k f =
     record {
       short = h;
       within = omega arith;
-      lines = omega arith;
       few = omega arith;
       fewPairs = omega arith;
       room = k;
@@ -90,7 +88,7 @@ survey-start text keys foldings h k f =
 
 pub survey-end : (text : List ℕ) (tally : Tally) (keys foldings : List ℕ) → length text ≤ tally .at → onward text tally keys foldings ≡ Fine (bookOf text tally keys foldings)
 unfolding verdict
-survey-end text tally keys foldings h = ap (verdict (tally .line) (bookOf text tally keys foldings)) (Walk.done text (tally .at) h)
+survey-end text tally keys foldings h = ap (verdict (bookOf text tally keys foldings)) (Walk.done text (tally .at) h)
 
 -- ---- the item at the tally's place
 
@@ -103,55 +101,52 @@ module _ (text : List ℕ) (tally : Tally) (keys foldings : List ℕ) (k : Kept 
 
   -- As `item` answers it on what is left.
   module _ {r : Entry} (e : Entry) (says : (r ≡ entry (lent (tally .at) text)) × Lies (length (lent (tally .at) text)) r) (is : r ≡ e) where
-    there : entry (drop (tally .at) text) ≡ e
-    there = ap entry (sym (rest (tally .at) text)) ∙ known (Lies (length (lent (tally .at) text))) says is .0
+    abbrev left : List ℕ
+    left = drop (tally .at) text
 
-    near : (tally .at < tally .at + taken e) × (tally .at + taken e ≤ length text)
-    near = Walk.within text (tally .at) e (says .0) is h
+    there : entry left ≡ e
+    there = Walk.there text (tally .at) e (says .0) is
+
+    near : (tally .at < tally .at + taken left e) × (tally .at + taken left e ≤ length text)
+    near = Walk.within text (tally .at) e there h
 
     -- An item that says nothing.
-    plain : Walk.Recognised e → (lines : ℕ) → 1 ≤ lines → lines ≤ 2 * taken e → fault (said (drop (tally .at) text) e) book ≡ 0
-        → enter (said (drop (tally .at) text) e) book ≡ book → lineBehind (tally .line) (said (drop (tally .at) text) e) ≡ tally .line + lines
-        → TurnIs text tally keys foldings keys foldings (On (passed tally (taken e) lines))
-    plain known lines low high f b l =
+    plain : Walk.Recognised e → fault (said left e) book ≡ 0 → enter (said left e) book ≡ book
+        → TurnIs text tally keys foldings keys foldings (On (passed tally (taken left e)))
+    plain known f b =
         let w = near .0 in
-        let n = k .lines in
-        let i = said (drop (tally .at) text) e in
-        let more = items (drop (tally .at + taken e) text) in (
+        let more = itemsAt text (tally .at + taken left e) in (
           record {
             short = k .short;
             within = near .1;
-            lines = omega arith;
             few = k .few;
             fewPairs = k .fewPairs;
             room = k .room;
             roomPairs = k .roomPairs;
-            sure = all-later text (tally .at) (tally .at + taken e) (take (tally .rules) keys) (omega arith) (k .sure);
+            sure = all-later text (tally .at) (tally .at + taken left e) (take (tally .rules) keys) (omega arith) (k .sure);
             small = k .small;
             bitsAre = k .bitsAre;
             fewBits = k .fewBits;
           },
           w,
-          ap₂ (λ (m : ℕ) (c : Book). verdict m c more) (sym l) (sym b)
-              ∙ verdict-on (tally .line) book i more (items (drop (tally .at) text)) (Walk.turn text (tally .at) e (says .0) is h known) f,
+          ap (λ (c : Book). verdict c more) (sym b)
+              ∙ verdict-on book (itemOf (tally .at) left e) more (itemsAt text (tally .at)) (Walk.turn text (tally .at) e there h known) f,
         )
 
   pub line-end-turn : (next : ℕ) {r : Entry} → (r ≡ entry (lent (tally .at) text)) × Lies (length (lent (tally .at) text)) r → r ≡ E.LineEnd next
-      → TurnIs text tally keys foldings keys foldings (On (passed tally next 1))
-  line-end-turn next says is =
-      let w = near (E.LineEnd next) says is .0 in
-      plain (E.LineEnd next) says is tt 1 (omega arith) (omega arith) refl refl refl
+      → TurnIs text tally keys foldings keys foldings (On (passed tally next))
+  line-end-turn next says is = plain (E.LineEnd next) says is tt refl refl
 
-  pub comment-turn : (newlines next : ℕ) {r : Entry} → (r ≡ entry (lent (tally .at) text)) × Lies (length (lent (tally .at) text)) r → r ≡ E.Comment newlines next
-      → TurnIs text tally keys foldings keys foldings (On (passed tally next (newlines + 2)))
-  comment-turn newlines next says is =
-      let w = near (E.Comment newlines next) says is .0 in
-      let b = known (Lies (length (lent (tally .at) text))) says is .1 .0 in
-      plain (E.Comment newlines next) says is tt (newlines + 2) (omega arith) (omega arith) refl refl (omega arith)
+  pub comment-turn : (next : ℕ) {r : Entry} → (r ≡ entry (lent (tally .at) text)) × Lies (length (lent (tally .at) text)) r → r ≡ E.Comment next
+      → TurnIs text tally keys foldings keys foldings (On (passed tally next))
+  comment-turn next says is = plain (E.Comment next) says is tt refl refl
 
   pub unknown-turn : {r : Entry} → (r ≡ entry (lent (tally .at) text)) × Lies (length (lent (tally .at) text)) r → r ≡ E.Unknown
       → TurnIs text tally keys foldings keys foldings (Stop NotRecognised)
-  unknown-turn says is = verdict-stop (tally .line) book UnknownItem [] (items (drop (tally .at) text)) (Walk.stop text (tally .at) (says .0) is h) NotRecognised refl
+  unknown-turn says is =
+      let left = drop (tally .at) text in
+      verdict-stop book (itemOf (tally .at) left E.Unknown) [] (itemsAt text (tally .at))
+      (Walk.stop text (tally .at) (there E.Unknown says is) h) NotRecognised refl
 
   -- A folding.
   module _ (c target next : ℕ) {r : Entry} (says : (r ≡ entry (lent (tally .at) text)) × Lies (length (lent (tally .at) text)) r) (is : r ≡ E.Folding c target next) where
@@ -167,8 +162,11 @@ module _ (text : List ℕ) (tally : Tally) (keys foldings : List ℕ) (k : Kept 
     longer : length (putFolding (foldingOf c target) (book .foldings)) ≡ length (putPair c target (take (tally .foldings) foldings))
     longer = ap length (sym put) ∙ length-map (putPair c target (take (tally .foldings) foldings)) foldingIn
 
-    item-is : items (drop (tally .at) text) ≡ FoldingItem c target ∷ items (drop (tally .at + next) text)
-    item-is = Walk.turn text (tally .at) (E.Folding c target next) (says .0) is h tt
+    abbrev here : Item
+    here = record { place = tally .at; length = next; saying = FoldingItem c target }
+
+    item-is : itemsAt text (tally .at) ≡ here ∷ itemsAt text (tally .at + next)
+    item-is = Walk.turn text (tally .at) (E.Folding c target next) (there (E.Folding c target next) says is) h tt
 
     eight : (n : ℕ) → 128 < n → when (ltb 128 n) 8 ≡ 8
     eight n g = ap (λ (t : Bool). when t 8) (lt-ltb 128 n g)
@@ -179,21 +177,19 @@ module _ (text : List ℕ) (tally : Tally) (keys foldings : List ℕ) (k : Kept 
     pub folding-turn : (foldings′ : List ℕ) (t : Turn) → PairEntered c target next tally foldings foldings′ t → TurnIs text tally keys foldings keys foldings′ t
     folding-turn foldings′ (Stop w) p =
         let many : 128 < length (putFolding (foldingOf c target) (book .foldings)) = subst (λ (n : ℕ). 128 < n) (sym longer) (p .0) in
-        verdict-stop (tally .line) book (FoldingItem c target) (items (drop (tally .at + next) text)) (items (drop (tally .at) text)) item-is w (eight _ many ∙ sym (p .1))
+        verdict-stop book here (itemsAt text (tally .at + next)) (itemsAt text (tally .at)) item-is w (eight _ many ∙ sym (p .1))
     folding-turn foldings′ (On t) p =
         let m = p .0 in
         let few : length (putFolding (foldingOf c target) (book .foldings)) ≤ 128 = subst (λ (n : ℕ). n ≤ 128) (p .1 ∙ sym longer) (p .2) in
         let now : take m foldings′ ≡ putPair c target (take (tally .foldings) foldings) = first-pairs c target (small-pair .1) foldings foldings′ (tally .foldings) m (p .1) (p .3) in
-        let n = k .lines in
         let q = k .roomPairs in
         let room : m ≤ length foldings = let x = p .2 in omega arith in
         let w = near (E.Folding c target next) says is .0 in
-        let more = items (drop (tally .at + next) text) in
+        let more = itemsAt text (tally .at + next) in
         subst (λ (t : Tally). TurnIs text tally keys foldings keys foldings′ (On t)) (sym (p .4)) (
           record {
             short = k .short;
             within = near (E.Folding c target next) says is .1;
-            lines = omega arith;
             few = k .few;
             fewPairs = p .2;
             room = k .room;
@@ -204,30 +200,36 @@ module _ (text : List ℕ) (tally : Tally) (keys foldings : List ℕ) (k : Kept 
             fewBits = k .fewBits;
           },
           w,
-          ap (λ (l : List Folding). verdict (tally .line + 1) (record { foldings = l; rules = book .rules }) more) (ap (map foldingIn) now ∙ put)
-              ∙ verdict-on (tally .line) book (FoldingItem c target) more (items (drop (tally .at) text)) item-is (none _ few),
+          ap (λ (l : List Folding). verdict (record { foldings = l; rules = book .rules }) more) (ap (map foldingIn) now ∙ put)
+              ∙ verdict-on book here more (itemsAt text (tally .at)) item-is (none _ few),
         )
 
   -- A rule.
   module _ (p p2 s s2 v v2 o o2 next : ℕ) {r : Entry} (says : (r ≡ entry (lent (tally .at) text)) × Lies (length (lent (tally .at) text)) r)
       (is : r ≡ E.Rule p p2 s s2 v v2 o o2 next) where
-    abbrev left : List ℕ
-    left = drop (tally .at) text
+    abbrev rule : Entry
+    rule = E.Rule p p2 s s2 v v2 o o2 next
+
+    abbrev rest-of : List ℕ
+    rest-of = drop (tally .at) text
 
     abbrev P : List ℕ
-    P = cut left p p2
+    P = cut rest-of p p2
 
     abbrev S : List ℕ
-    S = cut left s s2
+    S = cut rest-of s s2
 
     abbrev W : List ℕ
-    W = cut left v v2
+    W = cut rest-of v v2
 
     abbrev O : List ℕ
-    O = cut left o o2
+    O = cut rest-of o o2
 
-    rule-is : items left ≡ RuleItem P S W O ∷ items (drop (tally .at + next) text)
-    rule-is = Walk.turn text (tally .at) (E.Rule p p2 s s2 v v2 o o2 next) (says .0) is h tt
+    abbrev ruled-item : Item
+    ruled-item = record { place = tally .at; length = next; saying = RuleItem P S W O }
+
+    rule-is : itemsAt text (tally .at) ≡ ruled-item ∷ itemsAt text (tally .at + next)
+    rule-is = Walk.turn text (tally .at) rule (there rule says is) h tt
 
     fault-is : fault (RuleItem P S W O) book ≡ ruleFault P S W O (tally .rules)
     fault-is = ap (ruleFault P S W O) counted
@@ -238,12 +240,12 @@ module _ (text : List ℕ) (tally : Tally) (keys foldings : List ℕ) (k : Kept 
     placed : placeIn K ≡ tally .at
     placed = let a = k .short in key-place (codeOf (charOf P)) (length P) (tally .at) (omega arith)
 
-    here : itemAt text (placeIn K) ≡ RuleItem P S W O
-    here = ap (itemAt text) placed ∙ ap (said left) (there (E.Rule p p2 s s2 v v2 o o2 next) says is)
+    said-here : itemAt text (placeIn K) ≡ RuleItem P S W O
+    said-here = ap (itemAt text) placed ∙ ap (said rest-of) (there rule says is)
 
     viewed : view text K ≡ ruleOf P S W O
     unfolding view
-    viewed = ap ruleSaid here
+    viewed = ap ruleSaid said-here
 
     module _ (f : ruleFault P S W O (tally .rules) ≡ 0) where
       sure-key : Sure text (tally .at + 1) K
@@ -253,7 +255,7 @@ module _ (text : List ℕ) (tally : Tally) (keys foldings : List ℕ) (k : Kept 
             is = sym (λ i. key (firstCode (viewed i)) (length (viewed i .pattern)) (placed i));
             before = omega (arith, placed);
             short = subst (λ (q : Rule). length (q .pattern) ≤ 16) (sym viewed) (c .short);
-            flawless = subst Flawless (sym here) (c .first);
+            flawless = subst Flawless (sym said-here) (c .first);
           }
 
       module _ (keys′ : List ℕ) (g : keys′ ≡ insert K (take (tally .rules) keys) ++ drop (tally .rules + 1) keys) where
@@ -280,20 +282,18 @@ module _ (text : List ℕ) (tally : Tally) (keys foldings : List ℕ) (k : Kept 
 
     rule-entered : (keys′ : List ℕ) (t : Turn) → Entered P S W O next tally keys keys′ t → TurnIs text tally keys foldings keys′ foldings t
     rule-entered keys′ (Stop w) q =
-        verdict-stop (tally .line) book (RuleItem P S W O) (items (drop (tally .at + next) text)) (items left) rule-is w (fault-is ∙ q)
+        verdict-stop book ruled-item (itemsAt text (tally .at + next)) (itemsAt text (tally .at)) rule-is w (fault-is ∙ q)
     rule-entered keys′ (On t) q =
         let f = q .0 .0 in
         let few = q .0 .2 in
-        let n = k .lines in
         let m = k .fewBits in
-        let w = near (E.Rule p p2 s s2 v v2 o o2 next) says is .0 in
+        let w = near rule says is .0 in
         let c = clean P S W O (tally .rules) f .few in
-        let more = items (drop (tally .at + next) text) in
+        let more = itemsAt text (tally .at + next) in
         subst (λ (t : Tally). TurnIs text tally keys foldings keys′ foldings (On t)) (sym (q .2)) (
           record {
             short = k .short;
-            within = near (E.Rule p p2 s s2 v v2 o o2 next) says is .1;
-            lines = omega arith;
+            within = near rule says is .1;
             few = omega arith;
             fewPairs = k .fewPairs;
             room = keys-length keys keys′ (tally .rules) K (fewer f keys′ (q .1)) (q .1) ∙ k .room;
@@ -304,8 +304,8 @@ module _ (text : List ℕ) (tally : Tally) (keys foldings : List ℕ) (k : Kept 
             fewBits = omega arith;
           },
           w,
-          ap (λ (l : List Rule). verdict (tally .line + 1) (record { foldings = book .foldings; rules = l }) more) (noted f keys′ (q .1))
-              ∙ verdict-on (tally .line) book (RuleItem P S W O) more (items left) rule-is (fault-is ∙ f),
+          ap (λ (l : List Rule). verdict (record { foldings = book .foldings; rules = l }) more) (noted f keys′ (q .1))
+              ∙ verdict-on book ruled-item more (itemsAt text (tally .at)) rule-is (fault-is ∙ f),
         )
 
     -- As the parts are lent.

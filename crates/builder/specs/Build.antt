@@ -7,8 +7,8 @@ use lib.Dec.{ltb, leb, eqb}
 use lib.ListN.{length, drop}
 use Rattle.laws.specs.Lists.{every}
 use Rattle.chars.specs.Utf8.{isText}
-use Rattle.rule_text.specs.Items.{Item, items, firstLine, lineBehind}
-use Rattle.rule_text.specs.Items.Item.{RuleItem, FoldingItem, LineEndItem, CommentItem, UnknownItem}
+use Rattle.rule_text.specs.Items.{Saying, Item, items, lineOf}
+use Rattle.rule_text.specs.Items.Saying.{RuleItem, FoldingItem, LineEndItem, CommentItem, UnknownItem}
 use Rattle.rule_text.specs.Fields.{alternatives, fieldFault}
 use Rattle.plate.specs.Plate.{Folding, Rule, Plate, edition1, mostFoldings, mayPrecede}
 use Rattle.plate.specs.Written.{plateBytes}
@@ -38,11 +38,11 @@ ruleOf p s v o = record { pattern = p; start = alternatives s; vowel = alternati
 abbrev pub foldingOf : ℕ → ℕ → Folding
 foldingOf key target = record { key = key; target = target }
 
-abbrev pub enter : Item → Book → Book
+abbrev pub enter : Saying → Book → Book
 enter (RuleItem p s v o) b = record { foldings = b .foldings; rules = putRule (ruleOf p s v o) (b .rules) }
 enter (FoldingItem key target) b = record { foldings = putFolding (foldingOf key target) (b .foldings); rules = b .rules }
 enter LineEndItem b = b
-enter (CommentItem newlines) b = b
+enter CommentItem b = b
 enter UnknownItem b = b
 
 -- ---- the fault of an item behind those in the book, 0 for none
@@ -63,26 +63,27 @@ ruleFault p s v o rules =
     firstFault (when (eqb (length p) 0) 4 ∷ when (ltb 16 (length p)) 5 ∷ fieldFault s ∷ fieldFault v ∷ fieldFault o ∷ when (leb (edition1 .most) rules) 8 ∷ [])
 
 -- 3: "an item of rule text is not recognised"; 8: "rule 513, or the 129th distinct folding key"
-abbrev pub fault : Item → Book → ℕ
+abbrev pub fault : Saying → Book → ℕ
 fault (RuleItem p s v o) b = ruleFault p s v o (length (b .rules))
 fault (FoldingItem key target) b = when (ltb mostFoldings (length (putFolding (foldingOf key target) (b .foldings)))) 8
 fault LineEndItem b = 0
-fault (CommentItem newlines) b = 0
+fault CommentItem b = 0
 fault UnknownItem b = 3
 
 -- ---- "items front to back, the first fault in the text deciding"
 
+-- the number and the place of the item at fault, or what the items have said
 pub data Verdict : Type 0 where
   Faulty : ℕ → ℕ → Verdict
   Fine : Book → Verdict
 
 abbrev pub unless : ℕ → ℕ → Verdict → Verdict
-unless zero line v = v
-unless (suc n) line v = Faulty (suc n) line
+unless zero place v = v
+unless (suc n) place v = Faulty (suc n) place
 
-unfoldable pub verdict : ℕ → Book → List Item → Verdict
-verdict line b [] = Fine b
-verdict line b (i ∷ more) = unless (fault i b) line (verdict (lineBehind line i) (enter i b) more)
+unfoldable pub verdict : Book → List Item → Verdict
+verdict b [] = Fine b
+verdict b (i ∷ more) = unless (fault (i .saying) b) (i .place) (verdict (enter (i .saying) b) more)
 
 -- ---- "Build answers number, line and plate length; line is 0 except with 3 to 8, length is 0 on refusal. [..] After success the bytes behind the
 -- result are as lent; after refusal all are."
@@ -105,9 +106,10 @@ delivered plate lent =
 abbrev pub plateOf : Bool → Book → Plate
 plateOf flag b = record { flag = flag; foldings = b .foldings; rules = b .rules }
 
-abbrev pub answered : Bool → List ℕ → Verdict → Built
-answered flag lent (Faulty number line) = refusal number line lent
-answered flag lent (Fine b) = delivered (plateBytes edition1 (plateOf flag b)) lent
+-- 02, M-102: "The line is from now on 1 plus the newlines before the faulty item's first byte."
+abbrev pub answered : List ℕ → Bool → List ℕ → Verdict → Built
+answered text flag lent (Faulty number place) = refusal number (lineOf text place) lent
+answered text flag lent (Fine b) = delivered (plateBytes edition1 (plateOf flag b)) lent
 
 abbrev pub nonzero : ℕ → Bool
 nonzero b = ltb 0 b
@@ -116,4 +118,4 @@ nonzero b = ltb 0 b
 unfoldable pub buildAnswer : List ℕ → Bool → List ℕ → Built
 buildAnswer text flag lent =
     cond (ltb 65536 (length text)) (refusal 1 0 lent)
-    (cond (isText text && every nonzero text) (answered flag lent (verdict firstLine blank (items text))) (refusal 2 0 lent))
+    (cond (isText text && every nonzero text) (answered text flag lent (verdict blank (items text))) (refusal 2 0 lent))

@@ -1,4 +1,4 @@
--- What the first pass notes: rules and foldings as numbers, the bits of the rules, the place and line of the next item; and what its functions answer.
+-- What the first pass notes: rules and foldings as numbers, the bits of the rules, the place of the next item; and what its functions answer.
 -- Assumes nothing.
 use Prim.Native.Nat.{ℕ, _+_, _-_, _*_, _/_, _%_, _<_, _≤_}
 use mathlib.Core.Path.{_≡_}
@@ -7,8 +7,8 @@ use lib.ListN.{length, take, drop}
 use Rattle.laws.specs.Lists.{cat}
 use Rattle.chars.specs.Utf8.{charOf, codeOf}
 use Rattle.rule_text.specs.Forms.{entry}
-use Rattle.rule_text.specs.Items.{Item, said, items}
-use Rattle.rule_text.specs.Items.Item.{RuleItem, FoldingItem, LineEndItem, CommentItem, UnknownItem}
+use Rattle.rule_text.specs.Items.{Saying, said, itemsAt}
+use Rattle.rule_text.specs.Items.Saying.{RuleItem, FoldingItem, LineEndItem, CommentItem, UnknownItem}
 use Rattle.rule_text.specs.Fields.{alternatives, fieldFault}
 use Rattle.plate.specs.Plate.{Folding, Rule, firstCode, edition1, mostFoldings}
 use Rattle.plate.specs.Written.{fieldBits, ruleBits}
@@ -33,15 +33,15 @@ key c n at = (c * 32 + (16 - n)) * 65536 + at
 abbrev pub placeIn : ℕ → ℕ
 placeIn k = k % 65536
 
--- the item at a place
-abbrev pub itemAt : List ℕ → ℕ → Item
+-- what the item at a place says
+abbrev pub itemAt : List ℕ → ℕ → Saying
 itemAt text at = said (drop at text) (entry (drop at text))
 
-abbrev pub ruleSaid : Item → Rule
+abbrev pub ruleSaid : Saying → Rule
 ruleSaid (RuleItem p s v o) = ruleOf p s v o
 ruleSaid (FoldingItem key target) = ruleOf [] [] [] []
 ruleSaid LineEndItem = ruleOf [] [] [] []
-ruleSaid (CommentItem newlines) = ruleOf [] [] [] []
+ruleSaid CommentItem = ruleOf [] [] [] []
 ruleSaid UnknownItem = ruleOf [] [] [] []
 
 -- the rule that a number stands for, read again at its place
@@ -49,11 +49,11 @@ unfoldable pub view : List ℕ → ℕ → Rule
 view text k = ruleSaid (itemAt text (placeIn k))
 
 -- a rule without fault
-abbrev pub Flawless : Item → Type 0
+abbrev pub Flawless : Saying → Type 0
 Flawless (RuleItem p s v o) = ruleFault p s v o 0 ≡ 0
 Flawless (FoldingItem key target) = ⊥
 Flawless LineEndItem = ⊥
-Flawless (CommentItem newlines) = ⊥
+Flawless CommentItem = ⊥
 Flawless UnknownItem = ⊥
 
 -- a number stands for a rule before a place
@@ -89,7 +89,6 @@ bookOf text tally keys foldings =
 pub record Kept (text : List ℕ) (tally : Tally) (keys foldings : List ℕ) : Type 0 where
   pub short : length text ≤ 65536
   pub within : tally .at ≤ length text
-  pub lines : tally .line ≤ 1 + 2 * tally .at
   pub few : tally .rules ≤ edition1 .most
   pub fewPairs : tally .foldings ≤ mostFoldings
   pub room : length keys ≡ edition1 .most
@@ -119,19 +118,16 @@ RuleIs p s v o n (Judged.Fine bits) = (ruleFault p s v o n ≡ 0) × (bits ≡ l
 RuleIs p s v o n (Judged.Wrong fault) = ruleFault p s v o n ≡ numberOf fault
 
 -- behind an item that says nothing
-abbrev pub passed : Tally → ℕ → ℕ → Tally
-passed tally next lines =
-    record { at = tally .at + next; line = tally .line + lines; rules = tally .rules; foldings = tally .foldings; bits = tally .bits }
+abbrev pub passed : Tally → ℕ → Tally
+passed tally next = record { at = tally .at + next; rules = tally .rules; foldings = tally .foldings; bits = tally .bits }
 
 -- behind a rule of so many bits
 abbrev pub ruled : Tally → ℕ → ℕ → Tally
-ruled tally next bits =
-    record { at = tally .at + next; line = tally .line + 1; rules = tally .rules + 1; foldings = tally .foldings; bits = tally .bits + bits }
+ruled tally next bits = record { at = tally .at + next; rules = tally .rules + 1; foldings = tally .foldings; bits = tally .bits + bits }
 
 -- behind a folding, so many of them in all
 abbrev pub folded : Tally → ℕ → ℕ → Tally
-folded tally next n =
-    record { at = tally .at + next; line = tally .line + 1; rules = tally .rules; foldings = n; bits = tally .bits }
+folded tally next n = record { at = tally .at + next; rules = tally .rules; foldings = n; bits = tally .bits }
 
 abbrev pub Entered : List ℕ → List ℕ → List ℕ → List ℕ → ℕ → Tally → List ℕ → List ℕ → Turn → Type 0
 Entered p s v o next tally keys keys′ (On t) =
@@ -148,13 +144,13 @@ PairEntered c target next tally a a′ (Stop fault) = (mostFoldings < length (pu
 
 -- The verdict on the items from the tally's place on, behind what is noted.
 abbrev pub onward : List ℕ → Tally → List ℕ → List ℕ → Verdict
-onward text tally keys foldings = verdict (tally .line) (bookOf text tally keys foldings) (items (drop (tally .at) text))
+onward text tally keys foldings = verdict (bookOf text tally keys foldings) (itemsAt text (tally .at))
 
 abbrev pub TurnIs : List ℕ → Tally → List ℕ → List ℕ → List ℕ → List ℕ → Turn → Type 0
 TurnIs text tally keys foldings keys′ foldings′ (On t) =
     Kept text t keys′ foldings′ × (tally .at < t .at) × (onward text t keys′ foldings′ ≡ onward text tally keys foldings)
-TurnIs text tally keys foldings keys′ foldings′ (Stop fault) = onward text tally keys foldings ≡ Faulty (numberOf fault) (tally .line)
+TurnIs text tally keys foldings keys′ foldings′ (Stop fault) = onward text tally keys foldings ≡ Faulty (numberOf fault) (tally .at)
 
 abbrev pub SurveyIs : List ℕ → List ℕ → List ℕ → Verdict → Surveyed → Type 0
 SurveyIs text keys foldings v (Surveyed.Fine t) = Kept text t keys foldings × (v ≡ Fine (bookOf text t keys foldings))
-SurveyIs text keys foldings v (Surveyed.Faulty fault line) = v ≡ Faulty (numberOf fault) line
+SurveyIs text keys foldings v (Surveyed.Faulty fault at) = v ≡ Faulty (numberOf fault) at

@@ -1,4 +1,5 @@
--- Worked plates, built from their texts, by computation. The third was made by a writer of its own, from 01's words. Assumes nothing.
+-- Worked plates, built from their texts, and the line of a refusal, by computation. The third plate was made by a writer of its own, from 01's words.
+-- Assumes nothing.
 use Prim.Native.Nat.{ℕ, _-_}
 use mathlib.Core.Path.{_≡_, refl}
 use mathlib.Core.Bool.{Bool, true, false, not, _&&_, _||_}
@@ -9,7 +10,7 @@ use Rattle.laws.specs.Lists.{same, splitAt}
 use Rattle.chars.specs.Utf8.{textFrom}
 use Rattle.chars.specs.Quoted.{bytes, lines}
 use Rattle.rule_text.specs.Forms.{entry, quadruplet, folding, multilineComment, endOfLine, ending, comment, blanks, until, count, later, pairAt, lineAt, part, plain, escaped, partAt, letterAt, closing}
-use Rattle.rule_text.specs.Items.{itemsFrom}
+use Rattle.rule_text.specs.Items.{throughNewline, itemsFrom}
 use Rattle.builder.specs.Build.{Built, buildAnswer, verdict, ruleFault}
 use Rattle.plate.specs.Worked.{whole}
 
@@ -49,6 +50,19 @@ pub worked : T (
     )
 unfolding buildAnswer verdict textFrom splitAt entry quadruplet folding multilineComment endOfLine ending comment blanks until count later pairAt lineAt part plain escaped partAt letterAt closing itemsFrom
 worked = tt
+
+-- a text is refused with this number, and this line is given
+abbrev refused : List ℕ → ℕ → ℕ → Bool
+refused text number line = let b = buildAnswer text true [] in eqb (b .number) number && (eqb (b .line) line && eqb (b .length) 0)
+
+-- Newlines count wherever they stand before the item: in a comment, in a part, in a folding, as a line end. Those of the item itself do not.
+pub lines-worked : T (
+    refused (bytes "/*\n*/\r\n\n?\n") 3 4
+    && (refused (bytes "\"a\nb\" \"\" \"\" \"\"\n?") 3 3 && (refused (bytes "\n=\n\n?") 3 4 && refused (bytes "\"a\" \"1\n\" \"\" \"\"\n") 7 1))
+    && not (refused (bytes "/*\n*/\r\n\n?\n") 3 5 || refused (bytes "\"a\" \"1\n\" \"\" \"\"\n") 7 2)
+    )
+unfolding buildAnswer verdict textFrom splitAt entry quadruplet folding multilineComment endOfLine ending comment blanks until count later pairAt lineAt part plain escaped partAt letterAt closing throughNewline itemsFrom
+lines-worked = tt
 
 -- 8: "rule 513", when 512 stand before it
 pub full : (ruleFault (bytes "a") [] [] [] 511 ≡ 0) × (ruleFault (bytes "a") [] [] [] 512 ≡ 8) × (ruleFault (bytes "a") [] [] (bytes "x") 512 ≡ 7)

@@ -9,6 +9,7 @@ ghost use Rattle.builder.specs.Build.{buildAnswer};
 ghost use Rattle.builder.specs.Outcome.{told};
 use chars::Checked;
 use chars::utf8::check_text;
+use rule_text::item::line_of;
 use survey::Surveyed;
 use write::write_plate;
 
@@ -22,7 +23,7 @@ pub enum Fault {
     TooMany,
 }
 
-// What build answers: the plate's length in bytes, or why there is none.
+// What build answers: the plate's length in bytes, or why there is none; with a fault the line of its item.
 pub enum Built {
     Plate(usize),
     LongText,
@@ -47,7 +48,7 @@ pub fn build(text: &[u8], flag: bool, out: &mut [u8]) -> Built
     let mut keys = [0u64; 512];
     let mut foldings = [0u64; 128];
     match survey::survey(text, &mut keys, &mut foldings) {
-        Surveyed::Faulty(fault, line) => Built::Faulty(fault, line),
+        Surveyed::Faulty(fault, at) => Built::Faulty(fault, line_of(text, at)),
         Surveyed::Fine(tally) => {
             if out.len() < (32 + 42 * tally.foldings + tally.bits + 7) / 8 {
                 return Built::ShortBuffer;

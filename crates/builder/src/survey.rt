@@ -4,7 +4,7 @@ ghost use mathlib.Core.Path.{_≡_};
 ghost use Prim.Native.Nat.{_≤_, _<_};
 ghost use lib.ListN.{length};
 ghost use Rattle.chars.specs.Utf8.{charOf, codeOf};
-ghost use Rattle.rule_text.specs.Items.{items, firstLine};
+ghost use Rattle.rule_text.specs.Items.{items};
 ghost use Rattle.builder.specs.Build.{blank, verdict};
 ghost use Rattle.builder.specs.Survey.{key, FieldIs, RuleIs, Entered, PairEntered, Kept, TurnIs, SurveyIs, passed};
 use super::Fault;
@@ -24,10 +24,9 @@ pub enum Judged {
     Wrong(Fault),
 }
 
-// How far the items are read, and what they have said: the place and the line of the next one, how many rules and foldings, the bits of the rules.
+// How far the items are read, and what they have said: the place of the next one, how many rules and foldings, the bits of the rules.
 pub struct Tally {
     pub at: usize,
-    pub line: usize,
     pub rules: usize,
     pub foldings: usize,
     pub bits: usize,
@@ -39,7 +38,7 @@ pub enum Turn {
     Stop(Fault),
 }
 
-// The whole text: what its items have said, or the first fault and its line.
+// The whole text: what its items have said, or the first fault and the place of its item.
 pub enum Surveyed {
     Fine(Tally),
     Faulty(Fault, usize),
@@ -120,7 +119,7 @@ fn enter_rule(
     other: &[u8],
     next: usize,
 ) -> Turn
-    requires { ⌜ (length (now keys) ≡ 512) × (tally .at < 65536) × (next ≤ 65536) × (tally .line ≤ 200000) × (tally .bits ≤ 2000000) ⌝ }
+    requires { ⌜ (length (now keys) ≡ 512) × (tally .at < 65536) × (next ≤ 65536) × (tally .bits ≤ 2000000) ⌝ }
     ensures { λ r. ⌜ Entered (now (pattern .entry)) (now (start .entry)) (now (vowel .entry)) (now (other .entry)) next tally (now (keys .entry)) (now (keys .exit)) r ⌝ }
 {
     match measure_rule(pattern, start, vowel, other, tally.rules) {
@@ -129,7 +128,6 @@ fn enter_rule(
             insert_key(keys, tally.rules, key_of(pattern, tally.at));
             Turn::On(Tally {
                 at: tally.at + next,
-                line: tally.line + 1,
                 rules: tally.rules + 1,
                 foldings: tally.foldings,
                 bits: tally.bits + bits,
@@ -140,7 +138,7 @@ fn enter_rule(
 
 // A folding at the tally's place, its line end before `next`.
 fn enter_folding(foldings: &mut [u64], tally: Tally, key: u32, target: u32, next: usize) -> Turn
-    requires { ⌜ (length (now foldings) ≡ 128) × (tally .foldings ≤ 128) × (key < 0x110000) × (target < 0x110000) × (tally .at < 65536) × (next ≤ 65536) × (tally .line ≤ 200000) ⌝ }
+    requires { ⌜ (length (now foldings) ≡ 128) × (tally .foldings ≤ 128) × (key < 0x110000) × (target < 0x110000) × (tally .at < 65536) × (next ≤ 65536) ⌝ }
     ensures { λ r. ⌜ PairEntered key target next tally (now (foldings .entry)) (now (foldings .exit)) r ⌝ }
 {
     let Put::Now(n) = put_folding(foldings, tally.foldings, wide(key), wide(target)) else {
@@ -148,28 +146,26 @@ fn enter_folding(foldings: &mut [u64], tally: Tally, key: u32, target: u32, next
     };
     Turn::On(Tally {
         at: tally.at + next,
-        line: tally.line + 1,
         rules: tally.rules,
         foldings: n,
         bits: tally.bits,
     })
 }
 
-// An item that says nothing: the place moves behind it, and so many lines are counted.
-fn pass(tally: Tally, next: usize, lines: usize) -> Tally
-    requires { ⌜ (tally .at < 65536) × (next ≤ 65536) × (tally .line ≤ 200000) × (lines ≤ 70000) ⌝ }
-    ensures { λ r. ⌜ r ≡ passed tally next lines ⌝ }
+// An item that says nothing: the place moves behind it.
+fn pass(tally: Tally, next: usize) -> Tally
+    requires { ⌜ (tally .at < 65536) × (next ≤ 65536) ⌝ }
+    ensures { λ r. ⌜ r ≡ passed tally next ⌝ }
 {
     Tally {
         at: tally.at + next,
-        line: tally.line + lines,
         rules: tally.rules,
         foldings: tally.foldings,
         bits: tally.bits,
     }
 }
 
-// The item at the tally's place. 01: "1 more per item, and after each block comment a further (newlines inside it plus 1)."
+// The item at the tally's place.
 fn enter(text: &[u8], keys: &mut [u64], foldings: &mut [u64], tally: Tally) -> Turn
     requires { ⌜ Kept (now text) tally (now keys) (now foldings) × (tally .at < length (now text)) ⌝ }
     ensures { λ r. ⌜ TurnIs (now (text .entry)) tally (now (keys .entry)) (now (foldings .entry)) (now (keys .exit)) (now (foldings .exit)) r ⌝ }
@@ -197,8 +193,8 @@ fn enter(text: &[u8], keys: &mut [u64], foldings: &mut [u64], tally: Tally) -> T
             next,
         ),
         Entry::Folding { key, target, next } => enter_folding(foldings, tally, key, target, next),
-        Entry::LineEnd { next } => Turn::On(pass(tally, next, 1)),
-        Entry::Comment { newlines, next } => Turn::On(pass(tally, next, newlines + 2)),
+        Entry::LineEnd { next } => Turn::On(pass(tally, next)),
+        Entry::Comment { next } => Turn::On(pass(tally, next)),
         Entry::Unknown => Turn::Stop(Fault::NotRecognised),
     }
 }
@@ -206,11 +202,10 @@ fn enter(text: &[u8], keys: &mut [u64], foldings: &mut [u64], tally: Tally) -> T
 // All items of a text.
 pub(crate) fn survey(text: &[u8], keys: &mut [u64], foldings: &mut [u64]) -> Surveyed
     requires { ⌜ (length (now text) ≤ 65536) × (length (now keys) ≡ 512) × (length (now foldings) ≡ 128) ⌝ }
-    ensures { λ r. ⌜ SurveyIs (now (text .entry)) (now (keys .exit)) (now (foldings .exit)) (verdict firstLine blank (items (now (text .entry)))) r ⌝ }
+    ensures { λ r. ⌜ SurveyIs (now (text .entry)) (now (keys .exit)) (now (foldings .exit)) (verdict blank (items (now (text .entry)))) r ⌝ }
 {
     let mut tally = Tally {
         at: 0,
-        line: 1,
         rules: 0,
         foldings: 0,
         bits: 0,
@@ -221,7 +216,7 @@ pub(crate) fn survey(text: &[u8], keys: &mut [u64], foldings: &mut [u64]) -> Sur
                 tally = next;
             }
             Turn::Stop(fault) => {
-                return Surveyed::Faulty(fault, tally.line);
+                return Surveyed::Faulty(fault, tally.at);
             }
         }
     }

@@ -9,7 +9,6 @@ use rule_text::field::parse_branch;
 use rule_text::item::item;
 use trial::say::labelled;
 use trial::say::newline;
-use trial::say::number;
 use trial::say::word;
 
 // Newline, CR and tab by name, every other byte as it is.
@@ -66,9 +65,8 @@ fn line_end(at: usize, n: usize) {
     form(at, n, b": line end");
 }
 
-fn block_comment(at: usize, n: usize, newlines: usize) {
-    form(at, n, b": block comment, newlines ");
-    number(newlines);
+fn block_comment(at: usize, n: usize) {
+    form(at, n, b": block comment");
 }
 
 fn unknown(at: usize) {
@@ -105,8 +103,8 @@ fn show_item(rest: &[u8], at: usize) -> usize
             line_end(at, next);
             next
         }
-        Entry::Comment { newlines, next } => {
-            block_comment(at, next, newlines);
+        Entry::Comment { next } => {
+            block_comment(at, next);
             next
         }
         Entry::Unknown => {

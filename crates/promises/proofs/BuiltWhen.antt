@@ -13,14 +13,14 @@ use Rattle.laws.specs.Lists.{In, every}
 use Rattle.laws.proofs.Tests.{and-true}
 use Rattle.laws.proofs.Members.{in-every}
 use Rattle.chars.specs.Utf8.{isText}
-use Rattle.rule_text.specs.Items.{Item, items, firstLine, lineBehind}
-use Rattle.rule_text.specs.Items.Item.{RuleItem, FoldingItem, LineEndItem, CommentItem, UnknownItem}
+use Rattle.rule_text.specs.Items.{Saying, Item, items}
+use Rattle.rule_text.specs.Items.Saying.{RuleItem, FoldingItem, LineEndItem, CommentItem, UnknownItem}
 use Rattle.rule_text.specs.Fields.{alternatives, fieldFault}
 use Rattle.chars.specs.Digits.{isAlternative}
 use Rattle.plate.specs.Plate.{edition1}
 use Rattle.plate.specs.Written.{plateBytes}
 use Rattle.builder.specs.Build.{Book, blank, putFolding, foldingOf, enter, when, firstFault, fault, unless, verdict, Built, refusal, answered, delivered, nonzero, buildAnswer}
-use Rattle.promises.specs.Said.{rulesOf, foldingsOf, putRules, putFoldings}
+use Rattle.promises.specs.Said.{sayings, saidBy, rulesOf, foldingsOf, putRules, putFoldings}
 use Rattle.promises.specs.When.{Check, NotClean, FieldNumber, keys, ItemNumber, ItemsNumber, BuildNumber}
 use Rattle.promises.proofs.Said.{Holds, enter-holds, as-many-rules, put-count, knows-keys, in-some, some-in}
 use Rattle.promises.proofs.CodedWhen.{every-false}
@@ -51,7 +51,7 @@ module _ (rules : ℕ) where
   abbrev Eight : ℕ → Type 0
   Eight n = Check n 8 (512 ≤ rules) (n ≡ 0)
 
-rule-number : (p s v o : List ℕ) (before : List Item) (n : ℕ) → n ≡ length (rulesOf before)
+rule-number : (p s v o : List ℕ) (before : List Saying) (n : ℕ) → n ≡ length (rulesOf before)
     → ItemNumber before (RuleItem p s v o) (firstFault (when (eqb (length p) 0) 4 ∷ when (ltb 16 (length p)) 5 ∷ fieldFault s ∷ fieldFault v ∷ fieldFault o ∷ when (leb 512 n) 8 ∷ []))
 rule-number p s v o before n e =
     let last : List ℕ = when (leb 512 n) 8 ∷ [] in
@@ -74,7 +74,7 @@ rule-number p s v o before n e =
     empty [] h = refl
     empty (x ∷ l) h = absurd (omega arith)
 
-folding-number : (key target : ℕ) (before : List Item) (b : Book) → Holds before b → length (b .foldings) ≤ 128
+folding-number : (key target : ℕ) (before : List Saying) (b : Book) → Holds before b → length (b .foldings) ≤ 128
     → ItemNumber before (FoldingItem key target) (when (ltb 128 (length (putFolding (foldingOf key target) (b .foldings)))) 8)
 folding-number key target before b h few =
     let known = keys [] (foldingsOf before) in
@@ -93,15 +93,15 @@ folding-number key target before b h few =
     go false true e a a′ put many = inr ((λ w. w .1 (some-in key (keys [] (foldingsOf before)) e)), refl)
     go false false e a a′ put many = let m = a′ refl in inr ((λ w. let l = w .0 in omega arith), refl)
 
-item-number : (before : List Item) (i : Item) (b : Book) → Holds before b → length (b .foldings) ≤ 128 → ItemNumber before i (fault i b)
+item-number : (before : List Saying) (i : Saying) (b : Book) → Holds before b → length (b .foldings) ≤ 128 → ItemNumber before i (fault i b)
 item-number before (RuleItem p s v o) b h few = rule-number p s v o before (length (b .rules)) (as-many-rules before b h)
 item-number before (FoldingItem key target) b h few = folding-number key target before b h few
 item-number before LineEndItem b h few = refl
-item-number before (CommentItem newlines) b h few = refl
+item-number before CommentItem b h few = refl
 item-number before UnknownItem b h few = refl
 
 -- An item without fault keeps the foldings few.
-still-few : (i : Item) (b : Book) → fault i b ≡ 0 → length (b .foldings) ≤ 128 → length (enter i b .foldings) ≤ 128
+still-few : (i : Saying) (b : Book) → fault i b ≡ 0 → length (b .foldings) ≤ 128 → length (enter i b .foldings) ≤ 128
 still-few (RuleItem p s v o) b e h = h
 still-few (FoldingItem key target) b e h = go (ltb 128 (length (putFolding (foldingOf key target) (b .foldings)))) e (λ f. ltb-false 128 (length (putFolding (foldingOf key target) (b .foldings))) f)
   where
@@ -109,19 +109,20 @@ still-few (FoldingItem key target) b e h = go (ltb 128 (length (putFolding (fold
     go true z f = absurd (omega arith)
     go false z f = f refl
 still-few LineEndItem b e h = h
-still-few (CommentItem newlines) b e h = h
+still-few CommentItem b e h = h
 still-few UnknownItem b e h = h
 
 -- ---- the items
 
--- The plate of what items say.
-abbrev bytesSaid : Bool → List Item → List ℕ
+-- The plate of what is said.
+abbrev bytesSaid : Bool → List Saying → List ℕ
 bytesSaid flag is = plateBytes edition1 (record { flag = flag; foldings = putFoldings [] (foldingsOf is); rules = putRules [] (rulesOf is) })
 
 -- what a number and a line meet behind the items
-abbrev Met : Bool → List ℕ → List Item → List Item → ℕ → List Item → Built → Type 0
-Met flag lent all before at is a =
-    ItemsNumber before at is (a .number) (a .line) (Check (a .number) 9 (length lent < length (bytesSaid flag all)) (a .number ≡ 0)) × (((3 ≤ a .number) × (a .number ≤ 8) → ⊥) → a .line ≡ 0)
+abbrev Met : List ℕ → Bool → List ℕ → List Saying → List Saying → List Item → Built → Type 0
+Met text flag lent all before is a =
+    ItemsNumber text before is (a .number) (a .line) (Check (a .number) 9 (length lent < length (bytesSaid flag all)) (a .number ≡ 0))
+    × (((3 ≤ a .number) × (a .number ≤ 8) → ⊥) → a .line ≡ 0)
 
 delivered-number : (plate lent : List ℕ) → (let n = delivered plate lent .number in Check n 9 (length lent < length plate) (n ≡ 0) × (delivered plate lent .line ≡ 0))
 delivered-number plate lent = go (ltb (length lent) (length plate)) (λ e. ltb-true (length lent) (length plate) e) (λ e. ltb-false (length lent) (length plate) e)
@@ -132,10 +133,10 @@ delivered-number plate lent = go (ltb (length lent) (length plate)) (λ e. ltb-t
     go true a a′ = (inl (a refl, refl), refl)
     go false a a′ = (inr ((λ w. let m = a′ refl in omega arith), refl), refl)
 
-items-met : (flag : Bool) (lent : List ℕ) (all before : List Item) (at : ℕ) (b : Book) (is : List Item) → before ++ is ≡ all → Holds before b → length (b .foldings) ≤ 128
-    → Met flag lent all before at is (answered flag lent (verdict at b is))
+items-met : (text : List ℕ) (flag : Bool) (lent : List ℕ) (all before : List Saying) (b : Book) (is : List Item) → before ++ sayings is ≡ all → Holds before b
+    → length (b .foldings) ≤ 128 → Met text flag lent all before is (answered text flag lent (verdict b is))
 unfolding verdict
-items-met flag lent all before at b [] e h few =
+items-met text flag lent all before b [] e h few =
     let same : before ≡ all = sym (append-nil before) ∙ e in
     let d = delivered-number (plateBytes edition1 (record { flag = flag; foldings = b .foldings; rules = b .rules })) lent in
     let said : plateBytes edition1 (record { flag = flag; foldings = b .foldings; rules = b .rules }) ≡ bytesSaid flag all =
@@ -144,14 +145,16 @@ items-met flag lent all before at b [] e h few =
           said (d .0),
       (λ r. d .1),
     )
-items-met flag lent all before at b (i ∷ is) e h few =
-    go (fault i b) (item-number before i b h few)
-    (λ f. items-met flag lent all (before ++ (i ∷ [])) (lineBehind at i) (enter i b) is (append-assoc before (i ∷ []) is ∙ e) (enter-holds before i b h) (still-few i b f few))
+items-met text flag lent all before b (i ∷ is) e h few =
+    let s = i .saying in
+    go (fault s b) (item-number before s b h few)
+    (λ f. items-met text flag lent all (before ++ (s ∷ [])) (enter s b) is (append-assoc before (s ∷ []) (sayings is) ∙ e) (enter-holds before s b h) (still-few s b f few))
   where
-    go : (n : ℕ) → ItemNumber before i n → (n ≡ 0 → Met flag lent all (before ++ (i ∷ [])) (lineBehind at i) is (answered flag lent (verdict (lineBehind at i) (enter i b) is)))
-        → Met flag lent all before at (i ∷ is) (answered flag lent (unless n at (verdict (lineBehind at i) (enter i b) is)))
+    go : (n : ℕ) → ItemNumber before (i .saying) n
+        → (n ≡ 0 → Met text flag lent all (before ++ (i .saying ∷ [])) is (answered text flag lent (verdict (enter (i .saying) b) is)))
+        → Met text flag lent all before (i ∷ is) (answered text flag lent (unless n (i .place) (verdict (enter (i .saying) b) is)))
     go zero f below = let m = below refl in (inr (f, m .0), m .1)
-    go (suc n) f below = (inl (f, (λ z. omega arith), refl), (λ r. absurd (no (item-fault before i (suc n) f) r)))
+    go (suc n) f below = (inl (f, (λ z. omega arith), refl), (λ r. absurd (no (item-fault before (i .saying) (suc n) f) r)))
       where
         no : ((3 ≤ suc n) × (suc n ≤ 8)) ⊎ (suc n ≡ 0) → ((3 ≤ suc n) × (suc n ≤ 8) → ⊥) → ⊥
         no (inl x) r = r x
@@ -181,14 +184,14 @@ unfolding buildAnswer
 build-number text flag lent =
     go (ltb 65536 (length text)) (isText text && every nonzero text) (λ e. ltb-true 65536 (length text) e) (λ e h. let k = ltb-false 65536 (length text) e in omega arith)
     (λ e. clean text e) (λ e. not-clean text e)
-    (items-met flag lent (items text) [] firstLine blank (items text) refl (record { rules = refl; foldings = refl }) (omega arith))
+    (items-met text flag lent (saidBy text) [] blank (items text) refl (record { rules = refl; foldings = refl }) (omega arith))
   where
     go : (long fine : Bool) {w₁ w₂ : Type 0} → (long ≡ true → w₁) → (long ≡ false → w₁ → ⊥) → (fine ≡ false → w₂) → (fine ≡ true → w₂ → ⊥)
-        → Met flag lent (items text) [] firstLine (items text) (answered flag lent (verdict firstLine blank (items text)))
-        → (let a = cond long (refusal 1 0 lent) (cond fine (answered flag lent (verdict firstLine blank (items text))) (refusal 2 0 lent)) in
+        → Met text flag lent (saidBy text) [] (items text) (answered text flag lent (verdict blank (items text)))
+        → (let a = cond long (refusal 1 0 lent) (cond fine (answered text flag lent (verdict blank (items text))) (refusal 2 0 lent)) in
         Check (a .number) 1 w₁
         (Check (a .number) 2 w₂
-        (ItemsNumber [] firstLine (items text) (a .number) (a .line) (Check (a .number) 9 (length lent < length (bytesSaid flag (items text))) (a .number ≡ 0))))
+        (ItemsNumber text [] (items text) (a .number) (a .line) (Check (a .number) 9 (length lent < length (bytesSaid flag (saidBy text))) (a .number ≡ 0))))
         × (((3 ≤ a .number) × (a .number ≤ 8) → ⊥) → a .line ≡ 0))
     go true fine a a′ b b′ m = (inl (a refl, refl), (λ r. refl))
     go false false a a′ b b′ m = (inr (a′ refl, inl (b refl, refl)), (λ r. refl))

@@ -14,7 +14,7 @@ use Rattle.laws.specs.Arrays.{Each}
 use Rattle.laws.proofs.Tests.{by-test}
 use Rattle.laws.proofs.Parts.{by-lt}
 use Rattle.chars.specs.Utf8.{isText}
-use Rattle.rule_text.specs.Items.{Item, items, firstLine, lineBehind}
+use Rattle.rule_text.specs.Items.{Saying, Item, items}
 use Rattle.plate.specs.Plate.{Plate, edition1, goodPlate}
 use Rattle.plate.specs.Written.{plateBytes}
 use Rattle.plate.proofs.Packed.{Bytes}
@@ -27,7 +27,7 @@ use Rattle.coder.specs.Answer.{joined, room, listing, listAnswer, encodeAnswer}
 use Rattle.coder.specs.Given.{usesIn}
 use Rattle.coder.proofs.Joined.{Six}
 use Rattle.coder.proofs.Demands.{some-inj, filled, gives, encodes}
-use Rattle.promises.specs.Said.{plateSaid, IsPlate}
+use Rattle.promises.specs.Said.{sayings, plateSaid, IsPlate}
 use Rattle.promises.specs.When.{Check, Overfull, NameNumber}
 use Rattle.promises.specs.Demands.{SixDigits, Writes, BuildGives, ListGives, EncodeGives, OnePlate}
 use Rattle.promises.proofs.Said.{Holds, enter-holds}
@@ -39,21 +39,22 @@ use Rattle.promises.proofs.Digits.{yielded-six, codes-six}
 
 -- A verdict without fault is the book of all items.
 book : Book → Verdict → Book
-book d (Faulty n line) = d
+book d (Faulty n place) = d
 book d (Fine b) = b
 
 is-fine : Verdict → Bool
-is-fine (Faulty n line) = false
+is-fine (Faulty n place) = false
 is-fine (Fine b) = true
 
-fine-holds : (before : List Item) (line : ℕ) (b : Book) (is : List Item) (d : Book) → Holds before b → verdict line b is ≡ Fine d → Holds (before ++ is) d
+fine-holds : (before : List Saying) (b : Book) (is : List Item) (d : Book) → Holds before b → verdict b is ≡ Fine d → Holds (before ++ sayings is) d
 unfolding verdict book is-fine
-fine-holds before line b [] d h e = subst (λ (l : List Item). Holds l d) (sym (append-nil before)) (subst (Holds before) (ap (book b) e) h)
-fine-holds before line b (i ∷ is) d h e =
-    subst (λ (l : List Item). Holds l d) (append-assoc before (i ∷ []) is)
-    (fine-holds (before ++ (i ∷ [])) (lineBehind line i) (enter i b) is d (enter-holds before i b h) (go (fault i b) (verdict (lineBehind line i) (enter i b) is) e))
+fine-holds before b [] d h e = subst (λ (l : List Saying). Holds l d) (sym (append-nil before)) (subst (Holds before) (ap (book b) e) h)
+fine-holds before b (i ∷ is) d h e =
+    let s = i .saying in
+    subst (λ (l : List Saying). Holds l d) (append-assoc before (s ∷ []) (sayings is))
+    (fine-holds (before ++ (s ∷ [])) (enter s b) is d (enter-holds before s b h) (go (fault s b) (verdict (enter s b) is) e))
   where
-    go : (n : ℕ) (v : Verdict) → unless n line v ≡ Fine d → v ≡ Fine d
+    go : (n : ℕ) (v : Verdict) → unless n (i .place) v ≡ Fine d → v ≡ Fine d
     go zero v x = x
     go (suc n) v x = absurd (false≢true (ap is-fine x))
 
@@ -63,7 +64,7 @@ whole plate lent = record { number = 0; line = 0; length = length plate; buffer 
 
 -- An answer of 0 passed the tests of the whole text.
 abbrev Judged : List ℕ → Bool → List ℕ → Built → Type 0
-Judged text flag lent a = a .number ≡ 0 → (isText text && every nonzero text ≡ true) × (a ≡ answered flag lent (verdict firstLine blank (items text)))
+Judged text flag lent a = a .number ≡ 0 → (isText text && every nonzero text ≡ true) × (a ≡ answered text flag lent (verdict blank (items text)))
 
 judged : (text : List ℕ) (flag : Bool) (lent : List ℕ) → Judged text flag lent (buildAnswer text flag lent)
 unfolding buildAnswer
@@ -86,9 +87,9 @@ build-gives text flag lent bytes n =
     let j = judged text flag lent n in
     let x = build-accepted text flag lent bytes n in
     let b = x .0 in
-    let h = fine-holds [] firstLine blank (items text) b (record { rules = refl; foldings = refl }) (x .1) in
+    let h = fine-holds [] blank (items text) b (record { rules = refl; foldings = refl }) (x .1) in
     let said : plateOf flag b ≡ plateSaid flag text = λ i. record { flag = flag; foldings = h .foldings i; rules = h .rules i } in
-    let made : a ≡ delivered (plateBytes edition1 (plateOf flag b)) lent = j .1 ∙ ap (answered flag lent) (x .1) in
+    let made : a ≡ delivered (plateBytes edition1 (plateOf flag b)) lent = j .1 ∙ ap (answered text flag lent) (x .1) in
     let made′ : a ≡ delivered (plateBytes edition1 (plateSaid flag text)) lent = made ∙ ap (λ (p : Plate). delivered (plateBytes edition1 p) lent) said in
     let f = fitting (plateBytes edition1 (plateSaid flag text)) lent (ap (λ (c : Built). c .number) (sym made′) ∙ n) in
     let is : a ≡ whole (plateBytes edition1 (plateSaid flag text)) lent = made′ ∙ f .0 in

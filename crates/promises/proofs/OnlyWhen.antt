@@ -9,8 +9,8 @@ use native.Mathlib.Omega.{arith}
 use lib.Dec.{eqb}
 use lib.ListN.{length}
 use Rattle.laws.specs.Lists.{In, some}
-use Rattle.rule_text.specs.Items.{Item, items, firstLine, lineBehind}
-use Rattle.rule_text.specs.Items.Item.{RuleItem, FoldingItem, LineEndItem, CommentItem, UnknownItem}
+use Rattle.rule_text.specs.Items.{Saying, Item, items}
+use Rattle.rule_text.specs.Items.Saying.{RuleItem, FoldingItem, LineEndItem, CommentItem, UnknownItem}
 use Rattle.promises.specs.Demands.{buildNumbers, codeNumbers}
 use Rattle.promises.specs.When.{Check, Overfull, NameNumber, ListNumber, EncodeNumber, FieldNumber, ItemNumber, ItemsNumber, BuildNumber, Exclusive}
 use Rattle.promises.proofs.Said.{some-in}
@@ -43,11 +43,11 @@ encode-only plate name lent n place n′ place′ a b =
 field-only : {else else′ : Type 0} (f : List ℕ) {n n′ : ℕ} → (else → else′ → n ≡ n′) → FieldNumber f n else → FieldNumber f n′ else′ → n ≡ n′
 field-only f go = check-only 6 (check-only 7 go)
 
-item-only : (before : List Item) (i : Item) (n n′ : ℕ) → ItemNumber before i n → ItemNumber before i n′ → n ≡ n′
+item-only : (before : List Saying) (i : Saying) (n n′ : ℕ) → ItemNumber before i n → ItemNumber before i n′ → n ≡ n′
 item-only before (RuleItem p s v o) n n′ = check-only 4 (check-only 5 (field-only s (field-only v (field-only o (check-only 8 answered)))))
 item-only before (FoldingItem key target) n n′ = check-only 8 answered
 item-only before LineEndItem n n′ = answered
-item-only before (CommentItem newlines) n n′ = answered
+item-only before CommentItem n n′ = answered
 item-only before UnknownItem n n′ = λ a b. a ∙ sym b
 
 -- ---- and two lines
@@ -55,13 +55,13 @@ item-only before UnknownItem n n′ = λ a b. a ∙ sym b
 abbrev Same : ℕ → ℕ → ℕ → ℕ → Type 0
 Same n line n′ line′ = (n ≡ n′) × (line ≡ line′)
 
-items-only : {else else′ : Type 0} (before : List Item) (at : ℕ) (is : List Item) (n line n′ line′ : ℕ) → (else → else′ → Same n line n′ line′)
-    → ItemsNumber before at is n line else → ItemsNumber before at is n′ line′ else′ → Same n line n′ line′
-items-only before at [] n line n′ line′ f a b = f a b
-items-only before at (i ∷ is) n line n′ line′ f (inl a) (inl b) = (item-only before i n n′ (a .0) (b .0), a .2 ∙ sym (b .2))
-items-only before at (i ∷ is) n line n′ line′ f (inl a) (inr b) = absurd (a .1 (item-only before i n 0 (a .0) (b .0)))
-items-only before at (i ∷ is) n line n′ line′ f (inr a) (inl b) = absurd (b .1 (item-only before i n′ 0 (b .0) (a .0)))
-items-only before at (i ∷ is) n line n′ line′ f (inr a) (inr b) = items-only (before ++ (i ∷ [])) (lineBehind at i) is n line n′ line′ f (a .1) (b .1)
+items-only : {else else′ : Type 0} (text : List ℕ) (before : List Saying) (is : List Item) (n line n′ line′ : ℕ) → (else → else′ → Same n line n′ line′)
+    → ItemsNumber text before is n line else → ItemsNumber text before is n′ line′ else′ → Same n line n′ line′
+items-only text before [] n line n′ line′ f a b = f a b
+items-only text before (i ∷ is) n line n′ line′ f (inl a) (inl b) = (item-only before (i .saying) n n′ (a .0) (b .0), a .2 ∙ sym (b .2))
+items-only text before (i ∷ is) n line n′ line′ f (inl a) (inr b) = absurd (a .1 (item-only before (i .saying) n 0 (a .0) (b .0)))
+items-only text before (i ∷ is) n line n′ line′ f (inr a) (inl b) = absurd (b .1 (item-only before (i .saying) n′ 0 (b .0) (a .0)))
+items-only text before (i ∷ is) n line n′ line′ f (inr a) (inr b) = items-only text (before ++ (i .saying ∷ [])) is n line n′ line′ f (a .1) (b .1)
 
 -- outside 3 to 8
 abbrev Lineless : ℕ → ℕ → Type 0
@@ -83,7 +83,7 @@ build-only : (text : List ℕ) (flag : Bool) (lent : List ℕ) (n line n′ line
 build-only text flag lent n line n′ line′ a b =
     check-both 1 n line n′ line′ (inl (omega arith)) (a .1) (b .1)
     (check-both 2 n line n′ line′ (inl (omega arith)) (a .1) (b .1)
-    (items-only [] firstLine (items text) n line n′ line′
+    (items-only text [] (items text) n line n′ line′
     (check-both 9 n line n′ line′ (inr (omega arith)) (a .1) (b .1)
     (λ x y. (x ∙ sym y, no-line 0 n line (inl (omega arith)) x (a .1) ∙ sym (no-line 0 n′ line′ (inl (omega arith)) y (b .1))))))) (a .0) (b .0)
 
@@ -124,13 +124,13 @@ check-fault m h go (inr a) = go (a .1)
 field-fault : {else : Type 0} (f : List ℕ) {n : ℕ} → (else → Faulted n) → FieldNumber f n else → Faulted n
 field-fault f go = check-fault 6 (omega arith, omega arith) (check-fault 7 (omega arith, omega arith) go)
 
-pub item-fault : (before : List Item) (i : Item) (n : ℕ) → ItemNumber before i n → Faulted n
+pub item-fault : (before : List Saying) (i : Saying) (n : ℕ) → ItemNumber before i n → Faulted n
 item-fault before (RuleItem p s v o) n =
     check-fault 4 (omega arith, omega arith)
     (check-fault 5 (omega arith, omega arith) (field-fault s (field-fault v (field-fault o (check-fault 8 (omega arith, omega arith) inr)))))
 item-fault before (FoldingItem key target) n = check-fault 8 (omega arith, omega arith) inr
 item-fault before LineEndItem n = inr
-item-fault before (CommentItem newlines) n = inr
+item-fault before CommentItem n = inr
 item-fault before UnknownItem n = λ e. inl (omega arith, omega arith)
 
 -- a number of an item is one of build's
@@ -147,14 +147,15 @@ fault-in (suc (suc (suc (suc (suc (suc (suc zero))))))) (inl h) = at 7 buildNumb
 fault-in (suc (suc (suc (suc (suc (suc (suc (suc zero)))))))) (inl h) = at 8 buildNumbers refl
 fault-in (suc (suc (suc (suc (suc (suc (suc (suc (suc n))))))))) (inl h) = let u = h .1 in absurd (omega arith)
 
-items-in : {else : Type 0} (before : List Item) (line : ℕ) (is : List Item) (n l : ℕ) → (else → In n buildNumbers) → ItemsNumber before line is n l else → In n buildNumbers
-items-in before line [] n l go a = go a
-items-in before line (i ∷ is) n l go (inl a) = fault-in n (item-fault before i n (a .0))
-items-in before line (i ∷ is) n l go (inr a) = items-in (before ++ (i ∷ [])) (lineBehind line i) is n l go (a .1)
+items-in : {else : Type 0} (text : List ℕ) (before : List Saying) (is : List Item) (n line : ℕ) → (else → In n buildNumbers)
+    → ItemsNumber text before is n line else → In n buildNumbers
+items-in text before [] n line go a = go a
+items-in text before (i ∷ is) n line go (inl a) = fault-in n (item-fault before (i .saying) n (a .0))
+items-in text before (i ∷ is) n line go (inr a) = items-in text (before ++ (i .saying ∷ [])) is n line go (a .1)
 
 pub build-in : (text : List ℕ) (flag : Bool) (lent : List ℕ) (n line : ℕ) → BuildNumber text flag lent n line → In n buildNumbers
 build-in text flag lent n line a =
     check-in buildNumbers 1 (at 1 buildNumbers refl)
     (check-in buildNumbers 2 (at 2 buildNumbers refl)
-    (items-in [] firstLine (items text) n line
+    (items-in text [] (items text) n line
     (check-in buildNumbers 9 (at 9 buildNumbers refl) (zero-in buildNumbers (at 0 buildNumbers refl))))) (a .0)

@@ -9,7 +9,7 @@ use lib.ListN.{length}
 use Rattle.laws.specs.Lists.{every}
 use Rattle.laws.proofs.Tests.{by-test}
 use Rattle.chars.specs.Utf8.{isText}
-use Rattle.rule_text.specs.Items.{items, firstLine}
+use Rattle.rule_text.specs.Items.{items}
 use Rattle.plate.specs.Plate.{Rule, Plate, edition1}
 use Rattle.plate.specs.Written.{plateBytes}
 use Rattle.plate.specs.Read.{readPlate}
@@ -34,16 +34,16 @@ use Rattle.promises.proofs.OnlyWhen.{build-in, coded-in}
 abbrev Kept : List ℕ → Built → Type 0
 Kept lent a = Keeps (a .number) (a .length) lent (a .buffer)
 
-verdict-keeps : (flag : Bool) (lent : List ℕ) (v : Verdict) → Kept lent (answered flag lent v)
-verdict-keeps flag lent (Faulty n line) = λ _. (refl, refl)
-verdict-keeps flag lent (Fine b) =
+verdict-keeps : (text : List ℕ) (flag : Bool) (lent : List ℕ) (v : Verdict) → Kept lent (answered text flag lent v)
+verdict-keeps text flag lent (Faulty n place) = λ _. (refl, refl)
+verdict-keeps text flag lent (Fine b) =
     by-test (Kept lent) (ltb (length lent) (length (plateBytes edition1 (plateOf flag b)))) _ _ (λ e _. (refl, refl)) (λ e h. absurd (h refl))
 
 build-keeps : (text : List ℕ) (flag : Bool) (lent : List ℕ) → Kept lent (buildAnswer text flag lent)
 unfolding buildAnswer
 build-keeps text flag lent =
     by-test (Kept lent) (ltb 65536 (length text)) _ _ (λ e _. (refl, refl)) λ e.
-    by-test (Kept lent) (isText text && every nonzero text) _ _ (λ f. verdict-keeps flag lent (verdict firstLine blank (items text))) (λ f _. (refl, refl))
+    by-test (Kept lent) (isText text && every nonzero text) _ _ (λ f. verdict-keeps text flag lent (verdict blank (items text))) (λ f _. (refl, refl))
 
 pub build-refuses : (text : List ℕ) (flag : Bool) (lent : List ℕ) → BuildRefuses text flag lent (buildAnswer text flag lent)
 build-refuses text flag lent =

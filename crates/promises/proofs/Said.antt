@@ -12,8 +12,8 @@ use lib.ListN.{length, length-append}
 use Rattle.laws.specs.Lists.{In, some}
 use Rattle.laws.proofs.Tests.{and-true, or-true, or-left, or-right}
 use Rattle.laws.proofs.Lists.{some-append}
-use Rattle.rule_text.specs.Items.{Item}
-use Rattle.rule_text.specs.Items.Item.{RuleItem, FoldingItem, LineEndItem, CommentItem, UnknownItem}
+use Rattle.rule_text.specs.Items.{Saying}
+use Rattle.rule_text.specs.Items.Saying.{RuleItem, FoldingItem, LineEndItem, CommentItem, UnknownItem}
 use Rattle.plate.specs.Plate.{Folding, Rule, rising}
 use Rattle.builder.specs.Build.{Book, putRule, putFolding, ruleOf, foldingOf, enter}
 use Rattle.builder.proofs.Sorted.{put-length, put-rising}
@@ -22,20 +22,20 @@ use Rattle.promises.specs.When.{keys}
 
 -- ---- item by item
 
-rules-behind : (before more : List Item) → rulesOf (before ++ more) ≡ rulesOf before ++ rulesOf more
+rules-behind : (before more : List Saying) → rulesOf (before ++ more) ≡ rulesOf before ++ rulesOf more
 rules-behind [] more = refl
 rules-behind (RuleItem p s v o ∷ is) more = ap (λ (l : List Rule). ruleOf p s v o ∷ l) (rules-behind is more)
 rules-behind (FoldingItem k t ∷ is) more = rules-behind is more
 rules-behind (LineEndItem ∷ is) more = rules-behind is more
-rules-behind (CommentItem n ∷ is) more = rules-behind is more
+rules-behind (CommentItem ∷ is) more = rules-behind is more
 rules-behind (UnknownItem ∷ is) more = rules-behind is more
 
-foldings-behind : (before more : List Item) → foldingsOf (before ++ more) ≡ foldingsOf before ++ foldingsOf more
+foldings-behind : (before more : List Saying) → foldingsOf (before ++ more) ≡ foldingsOf before ++ foldingsOf more
 foldings-behind [] more = refl
 foldings-behind (RuleItem p s v o ∷ is) more = foldings-behind is more
 foldings-behind (FoldingItem k t ∷ is) more = ap (λ (l : List Folding). foldingOf k t ∷ l) (foldings-behind is more)
 foldings-behind (LineEndItem ∷ is) more = foldings-behind is more
-foldings-behind (CommentItem n ∷ is) more = foldings-behind is more
+foldings-behind (CommentItem ∷ is) more = foldings-behind is more
 foldings-behind (UnknownItem ∷ is) more = foldings-behind is more
 
 put-rules-behind : (held l more : List Rule) → putRules held (l ++ more) ≡ putRules (putRules held l) more
@@ -47,17 +47,17 @@ put-foldings-behind held [] more = refl
 put-foldings-behind held (f ∷ l) more = put-foldings-behind (putFolding f held) l more
 
 -- The book holds what the items said.
-pub record Holds (before : List Item) (b : Book) : Type 0 where
+pub record Holds (before : List Saying) (b : Book) : Type 0 where
   pub rules : b .rules ≡ putRules [] (rulesOf before)
   pub foldings : b .foldings ≡ putFoldings [] (foldingsOf before)
 
-rules-next : (before : List Item) (i : Item) → putRules [] (rulesOf (before ++ (i ∷ []))) ≡ putRules (putRules [] (rulesOf before)) (rulesOf (i ∷ []))
+rules-next : (before : List Saying) (i : Saying) → putRules [] (rulesOf (before ++ (i ∷ []))) ≡ putRules (putRules [] (rulesOf before)) (rulesOf (i ∷ []))
 rules-next before i = ap (putRules []) (rules-behind before (i ∷ [])) ∙ put-rules-behind [] (rulesOf before) (rulesOf (i ∷ []))
 
-foldings-next : (before : List Item) (i : Item) → putFoldings [] (foldingsOf (before ++ (i ∷ []))) ≡ putFoldings (putFoldings [] (foldingsOf before)) (foldingsOf (i ∷ []))
+foldings-next : (before : List Saying) (i : Saying) → putFoldings [] (foldingsOf (before ++ (i ∷ []))) ≡ putFoldings (putFoldings [] (foldingsOf before)) (foldingsOf (i ∷ []))
 foldings-next before i = ap (putFoldings []) (foldings-behind before (i ∷ [])) ∙ put-foldings-behind [] (foldingsOf before) (foldingsOf (i ∷ []))
 
-pub enter-holds : (before : List Item) (i : Item) (b : Book) → Holds before b → Holds (before ++ (i ∷ [])) (enter i b)
+pub enter-holds : (before : List Saying) (i : Saying) (b : Book) → Holds before b → Holds (before ++ (i ∷ [])) (enter i b)
 enter-holds before (RuleItem p s v o) b h = record {
   rules = ap (putRule (ruleOf p s v o)) (h .rules) ∙ sym (rules-next before (RuleItem p s v o));
   foldings = h .foldings ∙ sym (foldings-next before (RuleItem p s v o));
@@ -67,7 +67,7 @@ enter-holds before (FoldingItem k t) b h = record {
   foldings = ap (putFolding (foldingOf k t)) (h .foldings) ∙ sym (foldings-next before (FoldingItem k t));
 }
 enter-holds before LineEndItem b h = record { rules = h .rules ∙ sym (rules-next before LineEndItem); foldings = h .foldings ∙ sym (foldings-next before LineEndItem) }
-enter-holds before (CommentItem n) b h = record { rules = h .rules ∙ sym (rules-next before (CommentItem n)); foldings = h .foldings ∙ sym (foldings-next before (CommentItem n)) }
+enter-holds before CommentItem b h = record { rules = h .rules ∙ sym (rules-next before CommentItem); foldings = h .foldings ∙ sym (foldings-next before CommentItem) }
 enter-holds before UnknownItem b h = record { rules = h .rules ∙ sym (rules-next before UnknownItem); foldings = h .foldings ∙ sym (foldings-next before UnknownItem) }
 
 -- ---- how many
@@ -77,7 +77,7 @@ rules-count held [] = omega arith
 rules-count held (r ∷ l) = rules-count (putRule r held) l ∙ ap (λ (n : ℕ). n + length l) (put-length r held) ∙ omega arith
 
 -- The book has as many rules as the items.
-pub as-many-rules : (before : List Item) (b : Book) → Holds before b → length (b .rules) ≡ length (rulesOf before)
+pub as-many-rules : (before : List Saying) (b : Book) → Holds before b → length (b .rules) ≡ length (rulesOf before)
 as-many-rules before b h = ap length (h .rules) ∙ rules-count [] (rulesOf before) ∙ zero-add (length (rulesOf before))
 
 -- ---- the distinct keys
@@ -195,7 +195,7 @@ all-known fs known [] h = h
 all-known fs known (f ∷ l) h = all-known (putFolding f fs) (noted (f .key) known) l (put-knows f fs known h)
 
 -- The book has one folding for each distinct key of the items.
-pub knows-keys : (before : List Item) (b : Book) → Holds before b → Knows (b .foldings) (keys [] (foldingsOf before))
+pub knows-keys : (before : List Saying) (b : Book) → Holds before b → Knows (b .foldings) (keys [] (foldingsOf before))
 knows-keys before b h =
     subst (λ (fs : List Folding). Knows fs (keys [] (foldingsOf before))) (sym (h .foldings))
     (all-known [] [] (foldingsOf before) (record { up = refl; many = refl; has = λ k. refl }))

@@ -5,11 +5,10 @@ use mathlib.Core.Bool.{Bool, true, false, cond, _&&_, _||_}
 use mathlib.Core.List.{List, [], _∷_}
 use lib.Dec.{ltb, leb, eqb}
 use lib.ListN.{length}
-use Rattle.rule_text.specs.Items.{items}
 use Rattle.plate.specs.Plate.{Rule, firstCode, mayPrecede}
 use Rattle.builder.specs.Build.{putRule}
 use Rattle.coder.specs.Wider.{WiderRule, WiderRules}
-use Rattle.promises.specs.Said.{rulesOf, putRules, putFoldings, plateSaid}
+use Rattle.promises.specs.Said.{saidBy, rulesOf, putRules, putFoldings, plateSaid}
 use Rattle.promises.specs.Demands.{WiderPlate, WiderText}
 
 may-same : (r q r′ q′ : Rule) → r′ .pattern ≡ r .pattern → q′ .pattern ≡ q .pattern → mayPrecede r′ q′ ≡ mayPrecede r q
@@ -38,4 +37,4 @@ all-wider held held′ (r ∷ rs) [] h w = absurd w
 all-wider held held′ (r ∷ rs) (r′ ∷ rs′) h w = all-wider (putRule r held) (putRule r′ held′) rs rs′ (put-wider r r′ held held′ (w .0) h) (w .1)
 
 pub said-wider : (text wide : List ℕ) (flag : Bool) → WiderText text wide → WiderPlate (plateSaid flag text) (plateSaid flag wide)
-said-wider text wide flag w = (refl, ap (putFoldings []) (w .0), all-wider [] [] (rulesOf (items text)) (rulesOf (items wide)) tt (w .1))
+said-wider text wide flag w = (refl, ap (putFoldings []) (w .0), all-wider [] [] (rulesOf (saidBy text)) (rulesOf (saidBy wide)) tt (w .1))

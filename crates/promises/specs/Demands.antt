@@ -7,7 +7,6 @@ use mathlib.Core.List.{List, [], _∷_, _++_}
 use lib.ListN.{length, take, drop, getD}
 use Rattle.laws.specs.Lists.{In, every}
 use Rattle.chars.specs.Digits.{digit}
-use Rattle.rule_text.specs.Items.{items}
 use Rattle.plate.specs.Plate.{Plate, edition1, goodPlate}
 use Rattle.plate.specs.Written.{plateBytes}
 use Rattle.builder.specs.Build.{Built}
@@ -16,7 +15,7 @@ use Rattle.branches.specs.Choice.{Chosen, yielded, firsts}
 use Rattle.coder.specs.Answer.{Coded}
 use Rattle.coder.specs.Given.{usesIn}
 use Rattle.coder.specs.Wider.{WiderRules}
-use Rattle.promises.specs.Said.{rulesOf, foldingsOf, plateSaid, IsPlate}
+use Rattle.promises.specs.Said.{saidBy, rulesOf, foldingsOf, plateSaid, IsPlate}
 use Rattle.promises.specs.When.{BuildNumber, ListNumber, EncodeNumber}
 
 -- ---- demand 1: "Any bytes as rule text, plate or name bring an answer or one numbered refusal, given exactly when document 01 says. A refused call changes
@@ -112,7 +111,7 @@ PlatesKeep plate wide a b = (p q : Plate) → IsPlate p plate → IsPlate q wide
 
 -- The rules and the foldings of the second text, each in text order, differ from those of the first only so, whatever the comments, lines and blanks.
 abbrev pub WiderText : List ℕ → List ℕ → Type 0
-WiderText text wide = (foldingsOf (items wide) ≡ foldingsOf (items text)) × WiderRules (rulesOf (items text)) (rulesOf (items wide))
+WiderText text wide = (foldingsOf (saidBy wide) ≡ foldingsOf (saidBy text)) × WiderRules (rulesOf (saidBy text)) (rulesOf (saidBy wide))
 
 -- Of two lists by the plates that build wrote of such texts.
 abbrev pub TextsKeep : List ℕ → List ℕ → Coded → Coded → Type 0

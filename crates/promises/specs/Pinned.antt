@@ -98,8 +98,15 @@ cases =
     ∷ BadText (bytes "?\0") 2 0
     ∷ BadText (63 ∷ 0xFF ∷ []) 2 0
     ∷ BadText (bytes "\n\n?") 3 3
-    ∷ BadText (bytes "/* */\nx") 3 3
-    ∷ BadText (bytes "/* \n\n */\n\n\"\" \"\" \"\" \"\"\n") 4 6
+    -- the line is 1 plus the newlines before the item's first byte, wherever they stand: behind a comment or in it, in a folding, in a part
+    ∷ BadText (bytes "/* */\nx") 3 2
+    ∷ BadText (bytes "/* \n\n */\n\n\"\" \"\" \"\" \"\"\n") 4 5
+    ∷ BadText (bytes "\n=x\n?") 3 3
+    ∷ BadText (bytes "a=\n\n?") 3 3
+    ∷ BadText (bytes "\"a\nb\" \"\" \"\" \"\"\n?") 3 3
+    ∷ BadText (bytes "\r\n\r\n?") 3 3
+    -- the item's first byte decides, not the fault inside it
+    ∷ BadText (bytes "\"a\" \"1\n\" \"\" \"\"\n") 7 1
     ∷ BadText (bytes "\"abcdefghijklmnopq\" \"x\" \"\" \"\"") 5 1
     ∷ GoodText (bytes "\"abcdefghijklmnop\" \"123456\" \"|||||||\" \"\"") 1 0
     ∷ BadText (bytes "\n\"a\" \"x|||||||||\" \"\" \"\"") 6 2
@@ -151,6 +158,9 @@ wrong =
     ∷ BadText (bytes "\n\n?") 3 2
     ∷ BadText (bytes "\n\n?") 2 3
     ∷ BadText (bytes "\n\n") 3 3
+    ∷ BadText (bytes "/* */\nx") 3 3
+    ∷ BadText (bytes "\n=x\n?") 3 2
+    ∷ BadText (bytes "\"a\" \"1\n\" \"\" \"\"\n") 7 2
     ∷ []
 
 pub pinned : T (apart cases wrong)

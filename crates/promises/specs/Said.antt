@@ -3,28 +3,37 @@ use Prim.Native.Nat.{ℕ}
 use mathlib.Core.Path.{_≡_}
 use mathlib.Core.Bool.{Bool, true}
 use mathlib.Core.List.{List, [], _∷_}
-use Rattle.rule_text.specs.Items.{Item, items}
-use Rattle.rule_text.specs.Items.Item.{RuleItem, FoldingItem, LineEndItem, CommentItem, UnknownItem}
+use Rattle.rule_text.specs.Items.{Saying, Item, items}
+use Rattle.rule_text.specs.Items.Saying.{RuleItem, FoldingItem, LineEndItem, CommentItem, UnknownItem}
 use Rattle.plate.specs.Plate.{Folding, Rule, Plate, edition1, goodPlate}
 use Rattle.plate.specs.Written.{plateBytes}
 use Rattle.builder.specs.Build.{putRule, putFolding, ruleOf, foldingOf}
 
--- the rules among items, in text order
-abbrev pub rulesOf : List Item → List Rule
+-- what items say, one by one
+abbrev pub sayings : List Item → List Saying
+sayings [] = []
+sayings (i ∷ more) = i .saying ∷ sayings more
+
+-- what the items of a text say
+abbrev pub saidBy : List ℕ → List Saying
+saidBy text = sayings (items text)
+
+-- the rules among them, in text order
+abbrev pub rulesOf : List Saying → List Rule
 rulesOf [] = []
 rulesOf (RuleItem p s v o ∷ more) = ruleOf p s v o ∷ rulesOf more
 rulesOf (FoldingItem key target ∷ more) = rulesOf more
 rulesOf (LineEndItem ∷ more) = rulesOf more
-rulesOf (CommentItem newlines ∷ more) = rulesOf more
+rulesOf (CommentItem ∷ more) = rulesOf more
 rulesOf (UnknownItem ∷ more) = rulesOf more
 
--- the foldings among items, in text order
-abbrev pub foldingsOf : List Item → List Folding
+-- the foldings among them, in text order
+abbrev pub foldingsOf : List Saying → List Folding
 foldingsOf [] = []
 foldingsOf (RuleItem p s v o ∷ more) = foldingsOf more
 foldingsOf (FoldingItem key target ∷ more) = foldingOf key target ∷ foldingsOf more
 foldingsOf (LineEndItem ∷ more) = foldingsOf more
-foldingsOf (CommentItem newlines ∷ more) = foldingsOf more
+foldingsOf (CommentItem ∷ more) = foldingsOf more
 foldingsOf (UnknownItem ∷ more) = foldingsOf more
 
 -- put in one by one, each by its order, to those held
@@ -38,7 +47,7 @@ putFoldings held (f ∷ more) = putFoldings (putFolding f held) more
 
 -- the plate that a text says, with a folding flag
 abbrev pub plateSaid : Bool → List ℕ → Plate
-plateSaid flag text = record { flag = flag; foldings = putFoldings [] (foldingsOf (items text)); rules = putRules [] (rulesOf (items text)) }
+plateSaid flag text = record { flag = flag; foldings = putFoldings [] (foldingsOf (saidBy text)); rules = putRules [] (rulesOf (saidBy text)) }
 
 -- The bytes are those of a plate that obeys the table.
 abbrev pub IsPlate : Plate → List ℕ → Type 0

@@ -11,8 +11,8 @@ use Rattle.laws.specs.Lists.{In, some}
 use Rattle.chars.specs.Utf8.{charOf, isText, charsOf}
 use Rattle.chars.specs.declared.Char.the-variants.{One, Bad}
 use Rattle.chars.specs.Letters.{white}
-use Rattle.rule_text.specs.Items.{Item, items, firstLine, lineBehind}
-use Rattle.rule_text.specs.Items.Item.{RuleItem, FoldingItem, LineEndItem, CommentItem, UnknownItem}
+use Rattle.rule_text.specs.Items.{Saying, Item, items, lineOf}
+use Rattle.rule_text.specs.Items.Saying.{RuleItem, FoldingItem, LineEndItem, CommentItem, UnknownItem}
 use Rattle.rule_text.specs.Fields.{alternatives}
 use Rattle.chars.specs.Digits.{isAlternative}
 use Rattle.plate.specs.Plate.{Folding, Plate, edition1}
@@ -89,9 +89,9 @@ abbrev pub keys : List ℕ → List Folding → List ℕ
 keys known [] = known
 keys known (f ∷ more) = keys (cond (some (eqb (f .key)) known) known (known ++ (f .key ∷ []))) more
 
--- An item behind others, 0 for no fault. 3: "an item of rule text is not recognised"; 4: "empty pattern"; 5: "pattern over 16 bytes"; 8: "rule 513, or the
+-- What an item says, behind what others said, 0 for no fault. 3: "an item of rule text is not recognised"; 4: "empty pattern"; 5: "pattern over 16 bytes"; 8: "rule 513, or the
 -- 129th distinct folding key". "Inside a rule: 4, 5, then the three fields left to right, then 8."
-abbrev pub ItemNumber : List Item → Item → ℕ → Type 0
+abbrev pub ItemNumber : List Saying → Saying → ℕ → Type 0
 ItemNumber before (RuleItem p s v o) n =
     Check n 4 (p ≡ [])
     (Check n 5 (16 < length p)
@@ -103,22 +103,23 @@ ItemNumber before (FoldingItem key target) n =
     let known = keys [] (foldingsOf before) in
     Check n 8 ((128 ≤ length known) × (In key known → ⊥)) (n ≡ 0)
 ItemNumber before LineEndItem n = n ≡ 0
-ItemNumber before (CommentItem newlines) n = n ≡ 0
+ItemNumber before CommentItem n = n ≡ 0
 ItemNumber before UnknownItem n = n ≡ 3
 
--- The items front to back behind others, the counter being at a line: the first with a fault gives its number and that line; where none has one the rest
--- decides.
-abbrev pub ItemsNumber : List Item → ℕ → List Item → ℕ → ℕ → Type 0 → Type 0
-ItemsNumber before at [] n line else = else
-ItemsNumber before at (i ∷ more) n line else =
-    (ItemNumber before i n × (n ≡ 0 → ⊥) × (line ≡ at)) ⊎ (ItemNumber before i 0 × ItemsNumber (before ++ (i ∷ [])) (lineBehind at i) more n line else)
+-- The items of a text front to back, behind what others said: the first with a fault gives its number and its line; where none has one the rest decides.
+-- 02, M-102: the line is "1 plus the newlines before the faulty item's first byte".
+abbrev pub ItemsNumber : List ℕ → List Saying → List Item → ℕ → ℕ → Type 0 → Type 0
+ItemsNumber text before [] n line else = else
+ItemsNumber text before (i ∷ more) n line else =
+    (ItemNumber before (i .saying) n × (n ≡ 0 → ⊥) × (line ≡ lineOf text (i .place)))
+    ⊎ (ItemNumber before (i .saying) 0 × ItemsNumber text (before ++ (i .saying ∷ [])) more n line else)
 
 -- number and line; "line is 0 except with 3 to 8"
 abbrev pub BuildNumber : List ℕ → Bool → List ℕ → ℕ → ℕ → Type 0
 BuildNumber text flag lent n line =
     Check n 1 (65536 < length text)
     (Check n 2 (NotClean text)
-    (ItemsNumber [] firstLine (items text) n line
+    (ItemsNumber text [] (items text) n line
     (Check n 9 (length lent < length (plateBytes edition1 (plateSaid flag text))) (n ≡ 0))))
     × (((3 ≤ n) × (n ≤ 8) → ⊥) → line ≡ 0)
 

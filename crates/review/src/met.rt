@@ -11,7 +11,7 @@ use super::text::Item;
 use super::text::RULE;
 use super::text::behind;
 use super::text::first_item;
-use super::text::line_of;
+use super::text::line_at;
 use super::told::put_spot;
 use chars::Char;
 use chars::letters::is_space;
@@ -136,7 +136,7 @@ fn put_rule(
     fault: u8,
 ) -> Pen {
     if fault == AGAIN {
-        let line = line_of(text, first_place(text, pattern));
+        let line = line_at(text, first_place(text, pattern));
         return put_again(out, pen, pattern, b"never met: the pattern ", line);
     }
     put_unmet(out, pen, pattern, unmet_place(pattern, folds))
@@ -163,7 +163,7 @@ fn put_folding(
     fault: u8,
 ) -> Pen {
     if fault == AGAIN {
-        let line = line_of(text, place_in(find(folds, key)));
+        let line = line_at(text, place_in(find(folds, key)));
         return put_again(
             out,
             pen,

@@ -3,6 +3,7 @@ ghost use Prim.Native.Nat.{_≤_, _<_};
 ghost use lib.ListN.{length};
 use rule_text::Entry;
 use rule_text::item::item;
+use rule_text::item::line_of;
 use std::num::wrapping_add_u64;
 
 // What an item is.
@@ -12,7 +13,7 @@ pub(crate) const FOLDING: u8 = 1;
 
 pub(crate) const OTHER: u8 = 2;
 
-// An item: of a rule the place of its pattern, of a folding its characters; its length, and what it adds to build's count of lines.
+// An item: of a rule the place of its pattern, of a folding its characters; and its length.
 pub(crate) struct Item {
     pub(crate) kind: u8,
     pub(crate) from: usize,
@@ -20,10 +21,9 @@ pub(crate) struct Item {
     pub(crate) key: u32,
     pub(crate) target: u32,
     pub(crate) width: usize,
-    pub(crate) lines: u64,
 }
 
-fn other(width: usize, lines: u64) -> Item {
+fn other(width: usize) -> Item {
     Item {
         kind: OTHER,
         from: 0,
@@ -31,7 +31,6 @@ fn other(width: usize, lines: u64) -> Item {
         key: 0,
         target: 0,
         width: width,
-        lines: lines,
     }
 }
 
@@ -43,7 +42,6 @@ fn rule(from: usize, to: usize, width: usize) -> Item {
         key: 0,
         target: 0,
         width: width,
-        lines: 1,
     }
 }
 
@@ -55,11 +53,10 @@ fn folding(key: u32, target: u32, width: usize) -> Item {
         key: key,
         target: target,
         width: width,
-        lines: 1,
     }
 }
 
-// The first item of the rest of a text; one that is not recognised has no length. A block comment adds its newlines and two to build's count.
+// The first item of the rest of a text; one that is not recognised has no length.
 pub(crate) fn first_item(rest: &[u8]) -> Item {
     match item(rest) {
         Entry::Rule {
@@ -74,9 +71,9 @@ pub(crate) fn first_item(rest: &[u8]) -> Item {
             next,
         } => rule(pattern, pattern_end, next),
         Entry::Folding { key, target, next } => folding(key, target, next),
-        Entry::LineEnd { next } => other(next, 1),
-        Entry::Comment { newlines, next } => other(next, wrapping_add_u64(newlines as u64, 2)),
-        Entry::Unknown => other(0, 1),
+        Entry::LineEnd { next } => other(next),
+        Entry::Comment { next } => other(next),
+        Entry::Unknown => other(0),
     }
 }
 
@@ -95,31 +92,21 @@ pub(crate) fn behind(text: &[u8], at: usize, width: usize) -> usize
     at + width
 }
 
-// Where the item stands that build tells by a line.
+// Where a line begins: there the item begins that build tells by it, for each item ends with a line.
 pub(crate) fn place_of(text: &[u8], line: u64) -> usize {
-    let mut at: usize = 0;
-    let mut count: u64 = 1;
-    while at < text.len() {
-        if line <= count {
-            return at;
-        }
-        let it = first_item(&text[at..]);
-        count = wrapping_add_u64(count, it.lines);
-        at = behind(text, at, it.width);
-    }
-    at
-}
-
-// The line of a place as people count it: 1 and the newlines in front.
-pub(crate) fn line_of(text: &[u8], at: usize) -> u64 {
     let mut n: u64 = 1;
     for i in 0..text.len() {
-        if at <= i {
-            return n;
+        if line <= n {
+            return i;
         }
         n = wrapping_add_u64(n, is_newline(text[i]));
     }
-    n
+    text.len()
+}
+
+// The line of a place, as a number to write.
+pub(crate) fn line_at(text: &[u8], at: usize) -> u64 {
+    line_of(text, at) as u64
 }
 
 fn is_newline(b: u8) -> u64 {

@@ -1,7 +1,7 @@
 // What is told of a rule text that build refuses: file, line, number and words, the line itself, and for 3 what was found and the nearest form.
 use super::nearest::put_nearest;
+use super::text::line_at;
 use super::text::line_end;
-use super::text::line_of;
 use super::text::line_start;
 use super::text::place_of;
 use chars::Checked;
@@ -79,7 +79,7 @@ fn put_words(out: &mut [u8], pen: Pen, number: u64) -> Pen {
 pub(crate) fn put_spot(out: &mut [u8], pen: Pen, path: &[u8], text: &[u8], at: usize) -> Pen {
     let pen = put_path(out, pen, path);
     let pen = put(out, pen, b":");
-    let pen = put_number(out, pen, line_of(text, at));
+    let pen = put_number(out, pen, line_at(text, at));
     put(out, pen, b": ")
 }
 

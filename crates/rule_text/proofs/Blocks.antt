@@ -2,20 +2,18 @@
 use mathlib.Core.Path.{_≡_, refl, sym, ap, _∙_}
 use mathlib.Core.Bool.{Bool, true, false, cond}
 use mathlib.Core.List.{List}
-use Prim.Native.Nat.{ℕ, suc, _+_, _-_, _<_, _≤_}
+use Prim.Native.Nat.{ℕ, suc, _+_, _<_, _≤_}
 use native.Mathlib.Omega.{arith}
 use native.Mathlib.Numerals.{add-one}
 use native.Mathlib.Nat.{zero-add, add-zero, add-assoc}
-use lib.ListN.{length, getD, drop, length-drop, drop-of-length-le}
-use lib.Seq.{drop-cons, getD-drop, length-take-le}
-use Rattle.laws.specs.Lists.{cut}
+use lib.ListN.{length, getD, drop, drop-of-length-le}
+use lib.Seq.{drop-cons, getD-drop}
 use Rattle.laws.proofs.Lists.{rest}
 use Rattle.laws.proofs.Parts.{lent, lent-length}
-use Rattle.rule_text.specs.Forms.{newline, star, slash, pairAt, count, later, lineAt, closing, multilineComment}
-use Rattle.rule_text.specs.Answers.{From, Blocks}
+use Rattle.rule_text.specs.Forms.{star, slash, pairAt, later, lineAt, closing, multilineComment}
+use Rattle.rule_text.specs.Answers.{From, Comments}
 use Rattle.rule_text.specs.declared.Reach.{Reach}
 use Rattle.rule_text.specs.declared.Reach.the-variants as R
-use Rattle.rule_text.specs.declared.Block.the-variants.{Lines, No}
 
 -- ---- the end, from a place on
 
@@ -55,30 +53,23 @@ module _ (l : List ℕ) where
 
   -- ---- the ways out
 
-  pub none-1 : pairAt l 0 slash star ≡ false → multilineComment l ≡ No
+  pub none-1 : pairAt l 0 slash star ≡ false → multilineComment l ≡ R.No
   unfolding multilineComment
   none-1 e = rw e
 
   module _ (e1 : pairAt l 0 slash star ≡ true) where
-    pub none-2 : closing (lent 2 l) ≡ R.No → multilineComment l ≡ No
+    pub none-2 : closing (lent 2 l) ≡ R.No → multilineComment l ≡ R.No
     unfolding multilineComment
     none-2 e = rw (e1, sym (ap closing (rest 2 l)) ∙ e)
 
-    module _ {n : ℕ} (e2 : closing (lent 2 l) ≡ R.To n) where
-      pub none-3 : lineAt l (n + 4) ≡ R.No → multilineComment l ≡ No
-      unfolding multilineComment
-      none-3 e = rw (e1, sym (ap closing (rest 2 l)) ∙ e2, e)
-
-      pub lines : {next : ℕ} → lineAt l (n + 4) ≡ R.To next → multilineComment l ≡ Lines (count newline (cut l 2 (n + 2))) next
-      unfolding multilineComment
-      lines e = rw (e1, sym (ap closing (rest 2 l)) ∙ e2, e)
+    pub behind : {n : ℕ} → closing (lent 2 l) ≡ R.To n → multilineComment l ≡ lineAt l (n + 4)
+    unfolding multilineComment
+    behind e = rw (e1, sym (ap closing (rest 2 l)) ∙ e)
 
   -- Two bytes open a comment and two close it.
   pub closes : (n : ℕ) → 2 ≤ length l → n + 2 ≤ length (lent 2 l) → n + 4 ≤ length l
   closes n h e = let i = lent-length 2 l in omega arith
 
-  pub lines-blocks : (n : ℕ) {m next : ℕ} → n + 4 ≤ length l → m ≤ length (cut l 2 (n + 2)) → From (n + 4) (length l) (R.To next) → Blocks (length l) (Lines m next)
-  lines-blocks n h b e =
-      let i : n + 2 - 2 ≤ length (drop 2 l) = simp length-drop (omega arith) in
-      let d = length-take-le (n + 2 - 2) (drop 2 l) i in
-      let e0 = e .0 in (omega (arith, d), e .1)
+pub comments : (n k : ℕ) (r : Reach) → From (n + 4) k r → Comments k r
+comments n k (R.To next) b = let m = b .0 in (omega arith, b .1)
+comments n k R.No b = tt

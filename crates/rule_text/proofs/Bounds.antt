@@ -8,7 +8,6 @@ use native.Mathlib.Omega.{arith}
 use borrow.Author.Tests.{eqb-true, ltb-true}
 use lib.Dec.{eqb, ltb}
 use lib.ListN.{length, getD, drop}
-use Rattle.laws.specs.Lists.{cut}
 use Rattle.laws.proofs.Lists.{rest}
 use Rattle.laws.proofs.Tests.{by-test, and-true}
 use Rattle.laws.proofs.Parts.{lent, within}
@@ -17,8 +16,8 @@ use Rattle.chars.specs.Answers.{Reaches}
 use Rattle.chars.specs.declared.Char.{Char}
 use Rattle.chars.specs.declared.Char.the-variants.{One, Bad, End}
 use Rattle.chars.proofs.Places.{reaches}
-use Rattle.rule_text.specs.Forms.{space, tab, newline, return, slash, star, quote, equals, backslash, until, count, pairAt, blanks, comment, ending, later, endOfLine, lineAt, plain, escaped, part, laterQuoted, partAt, onward, onwardQuoted, onwardLetter, quadruplet, letter, letterAt, folding, closing, multilineComment, orRule, orFolding, orLineEnd, orComment, entry}
-use Rattle.rule_text.specs.Answers.{EndsLine, From, Closes, Holds, HoldsFour, Reads, Pairs, Blocks, Lies}
+use Rattle.rule_text.specs.Forms.{space, tab, newline, return, slash, star, quote, equals, backslash, until, pairAt, blanks, comment, ending, later, endOfLine, lineAt, plain, escaped, part, laterQuoted, partAt, onward, onwardQuoted, onwardLetter, quadruplet, letter, letterAt, folding, closing, multilineComment, orRule, orFolding, orLineEnd, orComment, entry}
+use Rattle.rule_text.specs.Answers.{EndsLine, From, Closes, Holds, HoldsFour, Reads, Pairs, Comments, Lies}
 use Rattle.rule_text.specs.declared.Reach.{Reach}
 use Rattle.rule_text.specs.declared.Reach.the-variants as R
 use Rattle.rule_text.specs.declared.Quoted.{Quoted}
@@ -29,13 +28,11 @@ use Rattle.rule_text.specs.declared.Parts.{Parts}
 use Rattle.rule_text.specs.declared.Parts.the-variants as P
 use Rattle.rule_text.specs.declared.Pair.{Pair}
 use Rattle.rule_text.specs.declared.Pair.the-variants as F
-use Rattle.rule_text.specs.declared.Block.{Block}
-use Rattle.rule_text.specs.declared.Block.the-variants as B
 use Rattle.rule_text.proofs.Counts.{pair-within}
 use Rattle.rule_text.proofs.Ends.{line-ends, at-from}
 use Rattle.rule_text.proofs.Quotes.{at-holds, four-holds}
 use Rattle.rule_text.proofs.Folds.{letter-reads, folds-pairs}
-use Rattle.rule_text.proofs.Blocks.{closes, lines-blocks}
+use Rattle.rule_text.proofs.Blocks.{closes, comments}
 
 -- ---- counts
 
@@ -50,12 +47,6 @@ unfolding until
 until-most b [] = omega arith
 until-most b (x ∷ xs) =
     let n = until-most b xs in by-test (λ (k : ℕ). k ≤ suc (length xs)) (eqb x b) 0 (suc (until b xs)) (λ t. omega arith) (λ t. omega arith)
-
-count-most : (b : ℕ) (l : List ℕ) → count b l ≤ length l
-unfolding count
-count-most b [] = omega arith
-count-most b (x ∷ xs) =
-    let n = count-most b xs in by-test (λ (k : ℕ). k ≤ suc (length xs)) (eqb x b) (suc (count b xs)) (count b xs) (λ t. omega arith) (λ t. omega arith)
 
 comment-most : (l : List ℕ) → comment l ≤ length l
 unfolding comment
@@ -192,16 +183,14 @@ closing-closes (x ∷ xs) =
     go (R.To k) b = subst (Closes (suc (length xs))) (sym (to 1 k)) (let c : k + 2 ≤ length xs = b in omega arith)
     go R.No b = subst (Closes (suc (length xs))) (sym (no 1)) tt
 
-comment-blocks : (l : List ℕ) → Blocks (length l) (multilineComment l)
+comment-reaches : (l : List ℕ) → Comments (length l) (multilineComment l)
 unfolding multilineComment
-comment-blocks l =
-    by-test (Blocks (length l)) (pairAt l 0 slash star) _ _ (λ t.
+comment-reaches l =
+    by-test (Comments (length l)) (pairAt l 0 slash star) _ _ (λ t.
     let two : 2 ≤ length l = let w = pair-within l 0 slash star (omega arith) t in omega arith in
     let c = subst (λ (s : List ℕ). Closes (length s) (closing (drop 2 l))) (sym (rest 2 l)) (closing-closes (drop 2 l)) in
-    lined (Blocks (length l)) (closing (drop 2 l)) B.No _ (Closes (length (lent 2 l))) c tt λ n b.
-    let i = closes l n two b in
-    lined (Blocks (length l)) (lineAt l (n + 4)) B.No _ (From (n + 4) (length l)) (from-line l (n + 4) i) tt λ next e.
-    lines-blocks l n i (count-most newline (cut l 2 (n + 2))) e) (λ t. tt)
+    lined (Comments (length l)) (closing (drop 2 l)) R.No _ (Closes (length (lent 2 l))) c tt λ n b.
+    comments n (length l) (lineAt l (n + 4)) (from-line l (n + 4) (closes l n two b))) (λ t. tt)
 
 -- ---- an item
 
@@ -209,13 +198,13 @@ pub lies : (l : List ℕ) → Lies (length l) (entry l)
 unfolding entry
 lies l = rule (quadruplet l) (holds-four l)
   where
-    block : (b : Block) → Blocks (length l) b → Lies (length l) (orComment b)
-    block (B.Lines newlines next) h = h
-    block B.No h = tt
+    block : (r : Reach) → Comments (length l) r → Lies (length l) (orComment r)
+    block (R.To next) h = h
+    block R.No h = tt
 
     line-end : (r : Reach) → EndsLine (length l) r → Lies (length l) (orLineEnd r (orComment (multilineComment l)))
     line-end (R.To next) h = h
-    line-end R.No h = block (multilineComment l) (comment-blocks l)
+    line-end R.No h = block (multilineComment l) (comment-reaches l)
 
     pair : (p : Pair) → Pairs (length l) p → Lies (length l) (orFolding p (orLineEnd (endOfLine l) (orComment (multilineComment l))))
     pair (F.Folds key target next) h = h

@@ -55,8 +55,8 @@ use Rattle.rule_text.specs.Forms.{
   orRule,
   entry,
 }
-use Rattle.rule_text.specs.Items.{Item, said, taken, followed, itemsFrom, items}
-use Rattle.rule_text.specs.Items.Item.{RuleItem, FoldingItem, LineEndItem, CommentItem, UnknownItem}
+use Rattle.rule_text.specs.Items.{Saying, Item, taken, itemOf, followed, itemsFrom, items}
+use Rattle.rule_text.specs.Items.Saying.{RuleItem, FoldingItem, LineEndItem, CommentItem, UnknownItem}
 use Rattle.rule_text.specs.declared.Reach.{Reach}
 use Rattle.rule_text.specs.declared.Reach.the-variants as R
 use Rattle.rule_text.specs.declared.Quoted.{Quoted}
@@ -67,8 +67,6 @@ use Rattle.rule_text.specs.declared.Parts.{Parts}
 use Rattle.rule_text.specs.declared.Parts.the-variants as P
 use Rattle.rule_text.specs.declared.Pair.{Pair}
 use Rattle.rule_text.specs.declared.Pair.the-variants as F
-use Rattle.rule_text.specs.declared.Block.{Block}
-use Rattle.rule_text.specs.declared.Block.the-variants as B
 use Rattle.rule_text.specs.declared.Entry.{Entry}
 use Rattle.rule_text.specs.declared.Entry.the-variants as E
 
@@ -195,24 +193,24 @@ part-inside (x ∷ xs) h =
 
 module _ (t : ℕ → Bool) where
   -- A pattern is a text whose bytes pass; a key and a target are scalar values and not U+0000.
-  abbrev pub Clean : Item → Type 0
+  abbrev pub Clean : Saying → Type 0
   Clean (RuleItem p s v o) = (isText p ≡ true) × (every t p ≡ true)
   Clean (FoldingItem key target) = (scalar key ≡ true) × (0 < key) × (scalar target ≡ true) × (0 < target)
   Clean LineEndItem = Unit {0}
-  Clean (CommentItem newlines) = Unit {0}
+  Clean CommentItem = Unit {0}
   Clean UnknownItem = Unit {0}
 
   -- Each item is clean.
   abbrev pub AllClean : List Item → Type 0
   AllClean [] = Unit {0}
-  AllClean (i ∷ more) = Clean i × AllClean more
+  AllClean (i ∷ more) = Clean (i .saying) × AllClean more
 
   -- What an entry of l says is clean, and it stops.
   abbrev Sound : List ℕ → Entry → Type 0
   Sound l (E.Rule p p′ s s′ v v′ o o′ next) = Clean (RuleItem (cut l p p′) [] [] []) × Stop l next
   Sound l (E.Folding key target next) = Clean (FoldingItem key target) × Stop l next
   Sound l (E.LineEnd next) = Stop l next
-  Sound l (E.Comment newlines next) = Stop l next
+  Sound l (E.Comment next) = Stop l next
   Sound l E.Unknown = Unit {0}
 
   abbrev SoundRule : List ℕ → Parts → Type 0
@@ -222,10 +220,6 @@ module _ (t : ℕ → Bool) where
   abbrev SoundFolding : List ℕ → Pair → Type 0
   SoundFolding l (F.Folds key target next) = Clean (FoldingItem key target) × Stop l next
   SoundFolding l F.No = Unit {0}
-
-  abbrev SoundBlock : List ℕ → Block → Type 0
-  SoundBlock l (B.Lines newlines next) = Stop l next
-  SoundBlock l B.No = Unit {0}
 
   abbrev SoundLetter : Letter → Type 0
   SoundLetter (L.Is c n) = (scalar c ≡ true) × (0 < c)
@@ -263,18 +257,16 @@ module _ (t : ℕ → Bool) where
         let m = subst SoundLetter f (letter-sound (a + 1)) in ((k .0, k .1, m .0, m .1), subst (Ended l) g (line-at l b)))
         (λ q. tt)
 
-    block-sound : SoundBlock l (multilineComment l)
+    comment-sound : Ended l (multilineComment l)
     unfolding multilineComment
-    block-sound =
-        by-test (SoundBlock l) (pairAt l 0 slash star) _ B.No
-        (λ q.
-        onward-keeps (SoundBlock l) B.No (closing (drop 2 l)) _ tt λ n _.
-        onward-keeps (SoundBlock l) B.No (lineAt l (n + 4)) _ tt λ next f. subst (Ended l) f (line-at l (n + 4)))
+    comment-sound =
+        by-test (Ended l) (pairAt l 0 slash star) _ R.No
+        (λ q. onward-keeps (Ended l) R.No (closing (drop 2 l)) (λ n. lineAt l (n + 4)) tt λ n _. line-at l (n + 4))
         (λ q. tt)
 
     entry-sound : Sound l (entry l)
     unfolding entry
-    entry-sound = rule (quadruplet l) _ rule-sound (pair (folding l) _ folding-sound (line (endOfLine l) _ (end-of-line l) (block (multilineComment l) block-sound)))
+    entry-sound = rule (quadruplet l) _ rule-sound (pair (folding l) _ folding-sound (line (endOfLine l) _ (end-of-line l) (block (multilineComment l) comment-sound)))
       where
         rule : (r : Parts) (e : Entry) → SoundRule l r → Sound l e → Sound l (orRule r e)
         rule (P.Four p p′ s s′ v v′ o o′ next) e a b = a
@@ -288,33 +280,34 @@ module _ (t : ℕ → Bool) where
         line (R.To next) e a b = a
         line R.No e a b = b
 
-        block : (r : Block) → SoundBlock l r → Sound l (orComment r)
-        block (B.Lines newlines next) a = a
-        block B.No a = tt
+        block : (r : Reach) → Ended l r → Sound l (orComment r)
+        block (R.To next) a = a
+        block R.No a = tt
 
   -- Behind an item the items go on, clean.
-  goes-on : (x : ℕ) (xs : List ℕ) → isText (x ∷ xs) ≡ true → (e : Entry) → Sound (x ∷ xs) e → ((k : ℕ) → isText (drop k xs) ≡ true → AllClean (itemsFrom k xs))
-      → AllClean (said (x ∷ xs) e ∷ followed e (itemsFrom (taken e - 1) xs))
-  goes-on x xs h e s below = go e s
+  goes-on : (place x : ℕ) (xs : List ℕ) → isText (x ∷ xs) ≡ true → (e : Entry) → Sound (x ∷ xs) e
+      → ((k : ℕ) → isText (drop k xs) ≡ true → AllClean (itemsFrom (suc place) k xs))
+      → AllClean (itemOf place (x ∷ xs) e ∷ followed e (itemsFrom (suc place) (taken (x ∷ xs) e - 1) xs))
+  goes-on place x xs h e s below = go e s
     where
-      on : (n : ℕ) → Stop (x ∷ xs) n → AllClean (itemsFrom (n - 1) xs)
+      on : (n : ℕ) → Stop (x ∷ xs) n → AllClean (itemsFrom (suc place) (n - 1) xs)
       on zero s = absurd (omega (arith, stop-passes x xs 0 s))
       on (suc n) s = rw sub-one (below n (stop-text (x ∷ xs) (suc n) h s))
 
-      go : (e : Entry) → Sound (x ∷ xs) e → AllClean (said (x ∷ xs) e ∷ followed e (itemsFrom (taken e - 1) xs))
+      go : (e : Entry) → Sound (x ∷ xs) e → AllClean (itemOf place (x ∷ xs) e ∷ followed e (itemsFrom (suc place) (taken (x ∷ xs) e - 1) xs))
       go (E.Rule p p′ s s′ v v′ o o′ next) a = (a .0, on next (a .1))
       go (E.Folding key target next) a = (a .0, on next (a .1))
       go (E.LineEnd next) a = (tt, on next a)
-      go (E.Comment newlines next) a = (tt, on next a)
+      go (E.Comment next) a = (tt, on next a)
       go E.Unknown a = (tt, tt)
 
-  clean-from : t 0 ≡ false → (k : ℕ) (l : List ℕ) → isText (drop k l) ≡ true → every t l ≡ true → AllClean (itemsFrom k l)
+  clean-from : t 0 ≡ false → (place k : ℕ) (l : List ℕ) → isText (drop k l) ≡ true → every t l ≡ true → AllClean (itemsFrom place k l)
   unfolding itemsFrom
-  clean-from z k [] h passes = tt
-  clean-from z (suc k) (x ∷ xs) h passes = clean-from z k xs h (and-true (t x) (every t xs) passes .1)
-  clean-from z zero (x ∷ xs) h passes =
-      goes-on x xs h (entry (x ∷ xs)) (entry-sound z (x ∷ xs) h passes) (λ k i. clean-from z k xs i (and-true (t x) (every t xs) passes .1))
+  clean-from z place k [] h passes = tt
+  clean-from z place (suc k) (x ∷ xs) h passes = clean-from z (suc place) k xs h (and-true (t x) (every t xs) passes .1)
+  clean-from z place zero (x ∷ xs) h passes =
+      goes-on place x xs h (entry (x ∷ xs)) (entry-sound z (x ∷ xs) h passes) (λ k i. clean-from z (suc place) k xs i (and-true (t x) (every t xs) passes .1))
 
   -- Each item of a text whose bytes pass a test that zero fails is clean.
   pub items-clean : t 0 ≡ false → (text : List ℕ) → isText text ≡ true → every t text ≡ true → AllClean (items text)
-  items-clean z text h passes = clean-from z 0 text h passes
+  items-clean z text h passes = clean-from z 0 0 text h passes

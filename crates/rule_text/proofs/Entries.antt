@@ -7,7 +7,6 @@ use Rattle.rule_text.specs.Answers.{noRule, noFolding, noLineEnd}
 use Rattle.rule_text.specs.declared.Parts.{Parts}
 use Rattle.rule_text.specs.declared.Pair.{Pair}
 use Rattle.rule_text.specs.declared.Reach.{Reach}
-use Rattle.rule_text.specs.declared.Block.{Block}
 
 module _ (l : List ℕ) where
   pub from-rule : {p : Parts} → quadruplet l ≡ p → entry l ≡ orRule p (noRule l)
@@ -20,5 +19,5 @@ module _ (l : List ℕ) where
   pub from-line-end : {r : Reach} → endOfLine l ≡ r → noFolding l ≡ orLineEnd r (noLineEnd l)
   from-line-end e = ap (λ (r : Reach). orLineEnd r (noLineEnd l)) e
 
-  pub from-comment : {b : Block} → multilineComment l ≡ b → noLineEnd l ≡ orComment b
+  pub from-comment : {r : Reach} → multilineComment l ≡ r → noLineEnd l ≡ orComment r
   from-comment e = ap orComment e

@@ -7,5 +7,6 @@ pub mod Entries
 pub mod Splits
 pub mod Bounds
 pub mod Walk
+pub mod Covers
 pub mod Only
 pub mod Clean

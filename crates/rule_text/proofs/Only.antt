@@ -5,11 +5,11 @@ use Prim.Native.Nat.{ℕ}
 use lib.ListN.{length}
 use Rattle.laws.proofs.Only.{only}
 use Rattle.rule_text.specs.Forms.{endOfLine, quadruplet, folding, multilineComment, entry}
-use Rattle.rule_text.specs.Answers.{EndsLine, HoldsFour, Pairs, Blocks, Lies, parsed, Says, barBehind, Ends}
+use Rattle.rule_text.specs.Items.{lineOf}
+use Rattle.rule_text.specs.Answers.{EndsLine, HoldsFour, Pairs, Comments, Lies, parsed, Says, barBehind, Ends}
 use Rattle.rule_text.specs.declared.Reach.{Reach}
 use Rattle.rule_text.specs.declared.Parts.{Parts}
 use Rattle.rule_text.specs.declared.Pair.{Pair}
-use Rattle.rule_text.specs.declared.Block.{Block}
 use Rattle.rule_text.specs.declared.Entry.{Entry}
 use Rattle.rule_text.specs.declared.Alternatives.{Alternatives}
 
@@ -23,11 +23,14 @@ module _ (l : List ℕ) where
   pub only-folding : (r r′ : Pair) → (r ≡ folding l) × Pairs (length l) r → (r′ ≡ folding l) × Pairs (length l) r′ → r ≡ r′
   only-folding r r′ e f = only (e .0) (f .0)
 
-  pub only-multiline-comment : (r r′ : Block) → (r ≡ multilineComment l) × Blocks (length l) r → (r′ ≡ multilineComment l) × Blocks (length l) r′ → r ≡ r′
+  pub only-multiline-comment : (r r′ : Reach) → (r ≡ multilineComment l) × Comments (length l) r → (r′ ≡ multilineComment l) × Comments (length l) r′ → r ≡ r′
   only-multiline-comment r r′ e f = only (e .0) (f .0)
 
   pub only-item : (r r′ : Entry) → (r ≡ entry l) × Lies (length l) r → (r′ ≡ entry l) × Lies (length l) r′ → r ≡ r′
   only-item r r′ e f = only (e .0) (f .0)
+
+  pub only-line-of : (at r r′ : ℕ) → r ≡ lineOf l at → r′ ≡ lineOf l at → r ≡ r′
+  only-line-of at r r′ e f = only e f
 
   pub only-parse-branch : (r r′ : Alternatives) → (r ≡ parsed l) × Says l r → (r′ ≡ parsed l) × Says l r′ → r ≡ r′
   only-parse-branch r r′ e f = only (e .0) (f .0)

@@ -22,8 +22,6 @@ use Rattle.rule_text.specs.declared.Parts.{Parts}
 use Rattle.rule_text.specs.declared.Parts.the-variants as P
 use Rattle.rule_text.specs.declared.Pair.{Pair}
 use Rattle.rule_text.specs.declared.Pair.the-variants as F
-use Rattle.rule_text.specs.declared.Block.{Block}
-use Rattle.rule_text.specs.declared.Block.the-variants as B
 use Rattle.rule_text.specs.declared.Entry.{Entry}
 use Rattle.rule_text.specs.declared.Entry.the-variants as E
 use Rattle.rule_text.specs.declared.Alternatives.{Alternatives}
@@ -65,16 +63,16 @@ Pairs n (F.Folds key target next) =
     (next ≤ n) × (0 < next) × (key < 0x110000) × (scalar key ≡ true) × (target < 0x110000) × (scalar target ≡ true)
 Pairs n F.No = Unit
 
-abbrev pub Blocks : ℕ → Block → Type 0
-Blocks n (B.Lines newlines next) = (newlines < next) × (next ≤ n)
-Blocks n B.No = Unit
+-- two bytes open a comment and two close it
+abbrev pub Comments : ℕ → Reach → Type 0
+Comments n r = From 4 n r
 
 -- An item lies within, and takes a byte where there is one.
 abbrev pub Lies : ℕ → Entry → Type 0
 Lies n (E.Rule p p′ s s′ v v′ o o′ next) = HoldsFour n (P.Four p p′ s s′ v v′ o o′ next)
 Lies n (E.Folding key target next) = Pairs n (F.Folds key target next)
 Lies n (E.LineEnd next) = EndsLine n (R.To next)
-Lies n (E.Comment newlines next) = Blocks n (B.Lines newlines next)
+Lies n (E.Comment next) = Comments n (R.To next)
 Lies n E.Unknown = Unit
 
 -- ---- "the first form that fits [..], in this order": an item that is no rule; no folding either; no line end either

@@ -6,7 +6,6 @@ use mathlib.Core.Bool.{Bool, cond, _&&_, _||_}
 use mathlib.Core.List.{List, [], _∷_}
 use lib.Dec.{ltb, eqb}
 use lib.ListN.{length, getD, drop}
-use Rattle.laws.specs.Lists.{cut}
 use Rattle.chars.specs.Utf8.{charOf}
 use Rattle.chars.specs.declared.Char.{Char}
 use Rattle.chars.specs.declared.Char.the-variants.{One, Bad, End}
@@ -20,8 +19,6 @@ use Rattle.rule_text.specs.declared.Parts.{Parts}
 use Rattle.rule_text.specs.declared.Parts.the-variants as P
 use Rattle.rule_text.specs.declared.Pair.{Pair}
 use Rattle.rule_text.specs.declared.Pair.the-variants as F
-use Rattle.rule_text.specs.declared.Block.{Block}
-use Rattle.rule_text.specs.declared.Block.the-variants as B
 use Rattle.rule_text.specs.declared.Entry.{Entry}
 use Rattle.rule_text.specs.declared.Entry.the-variants as E
 
@@ -161,17 +158,14 @@ unfoldable pub closing : List ℕ → Reach
 closing [] = R.No
 closing (x ∷ xs) = cond (eqb x star && eqb (getD xs 0 0) slash) (R.To 0) (later 1 (closing xs))
 
-unfoldable pub multilineComment : List ℕ → Block
-multilineComment l =
-    cond (pairAt l 0 slash star)
-    (onward (closing (drop 2 l)) B.No (λ n. onward (lineAt l (n + 4)) B.No (λ next. B.Lines (count newline (cut l 2 (n + 2))) next)))
-    B.No
+unfoldable pub multilineComment : List ℕ → Reach
+multilineComment l = cond (pairAt l 0 slash star) (onward (closing (drop 2 l)) R.No (λ n. lineAt l (n + 4))) R.No
 
 -- ---- "At each item the first form that fits is taken, in this order"
 
-abbrev pub orComment : Block → Entry
-orComment (B.Lines newlines next) = E.Comment newlines next
-orComment B.No = E.Unknown
+abbrev pub orComment : Reach → Entry
+orComment (R.To next) = E.Comment next
+orComment R.No = E.Unknown
 
 abbrev pub orLineEnd : Reach → Entry → Entry
 orLineEnd (R.To next) otherwise = E.LineEnd next

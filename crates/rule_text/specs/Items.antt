@@ -1,59 +1,76 @@
--- What the items of a whole text say, and the line counter. 01, "Rule text, item by item" and "Numbers that come back". Assumes nothing.
+-- The items of a whole text: the place and the length of each, and what it says; and the line of a place. 01, "Rule text, item by item", and 02, M-102.
+-- Assumes nothing.
 use Prim.Native.Nat.{ℕ, zero, suc, _+_, _-_}
+use mathlib.Core.Bool.{cond}
 use mathlib.Core.List.{List, [], _∷_}
+use lib.Dec.{eqb}
+use lib.ListN.{take, drop}
 use Rattle.laws.specs.Lists.{cut}
-use Rattle.rule_text.specs.Forms.{entry}
+use Rattle.rule_text.specs.Forms.{newline, count, entry}
 use Rattle.rule_text.specs.declared.Entry.{Entry}
 use Rattle.rule_text.specs.declared.Entry.the-variants as E
 
--- A rule is its four parts as they stand between the quotes: pattern, start, before vowel, default. A block comment counts the newlines inside it.
-pub data Item : Type 0 where
-  RuleItem : List ℕ → List ℕ → List ℕ → List ℕ → Item
-  FoldingItem : ℕ → ℕ → Item
-  LineEndItem : Item
-  CommentItem : ℕ → Item
-  UnknownItem : Item
+-- What an item says. A rule is its four parts as they stand between the quotes: pattern, start, before vowel, default.
+pub data Saying : Type 0 where
+  RuleItem : List ℕ → List ℕ → List ℕ → List ℕ → Saying
+  FoldingItem : ℕ → ℕ → Saying
+  LineEndItem : Saying
+  CommentItem : Saying
+  UnknownItem : Saying
+
+-- An item: how many bytes of the text stand before its first, how many it has, and what it says.
+pub record Item : Type 0 where
+  pub place : ℕ
+  pub length : ℕ
+  pub saying : Saying
 
 -- what an item says whose forms were found at places of l
-abbrev pub said : List ℕ → Entry → Item
+abbrev pub said : List ℕ → Entry → Saying
 said l (E.Rule p p′ s s′ v v′ o o′ next) = RuleItem (cut l p p′) (cut l s s′) (cut l v v′) (cut l o o′)
 said l (E.Folding key target next) = FoldingItem key target
 said l (E.LineEnd next) = LineEndItem
-said l (E.Comment newlines next) = CommentItem newlines
+said l (E.Comment next) = CommentItem
 said l E.Unknown = UnknownItem
 
+-- 02, M-111: "an unrecognised item through its next newline, or to the end of text"
+unfoldable pub throughNewline : List ℕ → ℕ
+throughNewline [] = 0
+throughNewline (x ∷ xs) = cond (eqb x newline) 1 (suc (throughNewline xs))
+
 -- how many bytes an item takes
-abbrev pub taken : Entry → ℕ
-taken (E.Rule p p′ s s′ v v′ o o′ next) = next
-taken (E.Folding key target next) = next
-taken (E.LineEnd next) = next
-taken (E.Comment newlines next) = next
-taken E.Unknown = 1
+abbrev pub taken : List ℕ → Entry → ℕ
+taken l (E.Rule p p′ s s′ v v′ o o′ next) = next
+taken l (E.Folding key target next) = next
+taken l (E.LineEnd next) = next
+taken l (E.Comment next) = next
+taken l E.Unknown = throughNewline l
+
+-- the item at a place, l the bytes from there on
+abbrev pub itemOf : ℕ → List ℕ → Entry → Item
+itemOf place l e = record { place = place; length = taken l e; saying = said l e }
 
 -- An item that is not recognised ends the reading.
 abbrev pub followed : Entry → List Item → List Item
 followed (E.Rule p p′ s s′ v v′ o o′ next) is = is
 followed (E.Folding key target next) is = is
 followed (E.LineEnd next) is = is
-followed (E.Comment newlines next) is = is
+followed (E.Comment next) is = is
 followed E.Unknown is = []
 
--- The items front to back, sought while bytes remain; k bytes of the item before are still to pass.
-unfoldable pub itemsFrom : ℕ → List ℕ → List Item
-itemsFrom k [] = []
-itemsFrom (suc k) (x ∷ xs) = itemsFrom k xs
-itemsFrom zero (x ∷ xs) = let e = entry (x ∷ xs) in said (x ∷ xs) e ∷ followed e (itemsFrom (taken e - 1) xs)
+-- The items front to back, sought while bytes remain; so many bytes stand before these, and k bytes of the item before are still to pass.
+unfoldable pub itemsFrom : ℕ → ℕ → List ℕ → List Item
+itemsFrom place k [] = []
+itemsFrom place (suc k) (x ∷ xs) = itemsFrom (suc place) k xs
+itemsFrom place zero (x ∷ xs) =
+    let e = entry (x ∷ xs) in itemOf place (x ∷ xs) e ∷ followed e (itemsFrom (suc place) (taken (x ∷ xs) e - 1) xs)
+
+-- the items from a place of a text on
+abbrev pub itemsAt : List ℕ → ℕ → List Item
+itemsAt text place = itemsFrom place 0 (drop place text)
 
 abbrev pub items : List ℕ → List Item
-items text = itemsFrom 0 text
+items text = itemsAt text 0
 
--- 01: "The line given is the Rust's counter: 1 for the first item, 1 more per item, and after each block comment a further (newlines inside it plus 1)."
-abbrev pub firstLine : ℕ
-firstLine = 1
-
-abbrev pub lineBehind : ℕ → Item → ℕ
-lineBehind line (RuleItem p s v o) = line + 1
-lineBehind line (FoldingItem key target) = line + 1
-lineBehind line LineEndItem = line + 1
-lineBehind line (CommentItem newlines) = line + 1 + (newlines + 1)
-lineBehind line UnknownItem = line + 1
+-- 02, M-102: "The line is from now on 1 plus the newlines before the faulty item's first byte."
+abbrev pub lineOf : List ℕ → ℕ → ℕ
+lineOf text place = 1 + count newline (take place text)

@@ -2,11 +2,9 @@
 ghost use mathlib.Core.Path.{_≡_};
 ghost use lib.ListN.{length};
 ghost use Rattle.rule_text.specs.Forms.{closing, multilineComment};
-ghost use Rattle.rule_text.specs.Answers.{Closes, Blocks};
-use super::Block;
+ghost use Rattle.rule_text.specs.Answers.{Closes, Comments};
 use super::Reach;
 use super::lines::line_at;
-use super::scan::count_of;
 use super::scan::pair_at;
 
 // How many bytes stand before the first `*/`.
@@ -23,20 +21,14 @@ fn closing_of(rest: &[u8]) -> Reach
     Reach::No
 }
 
-pub fn multiline_comment(rest: &[u8]) -> Block
-    ensures { λ r. ⌜ (r ≡ multilineComment (now (rest .entry))) × Blocks (length (now (rest .entry))) r ⌝ }
+pub fn multiline_comment(rest: &[u8]) -> Reach
+    ensures { λ r. ⌜ (r ≡ multilineComment (now (rest .entry))) × Comments (length (now (rest .entry))) r ⌝ }
 {
     if !pair_at(rest, 0, b'/', b'*') {
-        return Block::No;
+        return Reach::No;
     }
     let Reach::To(n) = closing_of(&rest[2..]) else {
-        return Block::No;
+        return Reach::No;
     };
-    let Reach::To(next) = line_at(rest, n + 4) else {
-        return Block::No;
-    };
-    Block::Lines {
-        newlines: count_of(&rest[2..n + 2], b'\n'),
-        next,
-    }
+    line_at(rest, n + 4)
 }

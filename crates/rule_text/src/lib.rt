@@ -5,7 +5,7 @@ pub mod lines; // lines.rt: form 3, the line end
 pub mod rule; // rule.rt: form 1, the rule
 pub mod folding; // folding.rt: form 2, the folding
 pub mod comment; // comment.rt: form 4, the block comment
-pub mod item; // item.rt: the first form that fits
+pub mod item; // item.rt: the first form that fits, and the line of a place
 pub mod field; // field.rt: the alternatives of a field
 
 // The place behind a form, or that it does not fit.
@@ -52,12 +52,6 @@ pub enum Pair {
     No,
 }
 
-// A block comment: how many newlines stand inside it, and the place behind the line end.
-pub enum Block {
-    Lines { newlines: usize, next: usize },
-    No,
-}
-
 // An item: the first form that fits.
 pub enum Entry {
     Rule {
@@ -80,7 +74,6 @@ pub enum Entry {
         next: usize,
     },
     Comment {
-        newlines: usize,
         next: usize,
     },
     Unknown,

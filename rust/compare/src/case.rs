@@ -68,22 +68,18 @@ fn lend<A>(
     (answer, None)
 }
 
-/// What a text comes to, and where the Rust and the judge disagree on it. The Rust says 3 and its line. It is not asked
-/// about texts that the table refuses with another number before it would come to the end: it panics on an empty pattern.
+/// What a text comes to, and where the Rust and the judge disagree on it. The Rust says 3; its line is its own counter's
+/// and is not asked for (docs/DIFFERENCES.md, M-102). It is not asked about texts that the table refuses with another
+/// number before it would come to the end: it panics on an empty pattern.
 pub fn text_answer(text: &[u8], folding: bool) -> (TextAnswer, Option<Coder>, Option<String>) {
-    let mut answer = answers::text_answer(text, folding);
+    let answer = answers::text_answer(text, folding);
     if matches!(answer, Err(Fault { number: 1 | 2 | 4..=8, .. })) {
         return (answer, None, None);
     }
     let rust = oracle::build(std::str::from_utf8(text).expect("the judge has read it"), folding);
-    match (&mut answer, rust) {
+    match (&answer, rust) {
         (Ok(_), Ok(coder)) => (answer, Some(coder), None),
-        (Err(fault), Err(line)) => {
-            let told =
-                (fault.line != line as u64).then(|| format!("the Rust refuses line {line}, the paper {}", fault.line));
-            fault.line = line as u64;
-            (answer, None, told)
-        }
+        (Err(_), Err(_)) => (answer, None, None),
         (Ok(_), Err(line)) => (answer, None, Some(format!("the Rust refuses line {line}, the paper nothing"))),
         (Err(fault), Ok(_)) => {
             let told = format!("the paper refuses line {}, the Rust nothing", fault.line);

@@ -3,8 +3,8 @@
 //! `compare [TIMES] [SEED]`: TIMES as many random inputs as usual (1), from this seed (1).
 //! `compare control`: coders that are wrong on purpose in the archive's place, each of which must be noticed.
 //!
-//! What is right: codes and their order from the Rust's `inner_soundex`; refusal 3 and its line from the Rust's `build`;
-//! all other refusals, the bytes of the plate and patterns outside ASCII from the paper's words (the crate `judge`).
+//! What is right: codes and their order from the Rust's `inner_soundex`; refusal 3 from the Rust's `build`; the line of a
+//! refusal, all others, the bytes of the plate and patterns outside ASCII from the paper's words (the crate `judge`).
 //! Wherever the Rust and the judge both answer, they too must agree.
 
 mod calls;

@@ -29,9 +29,9 @@ pub struct Runs<'a> {
     /// (rules, name) pairs, and those of them whose codes the Rust gave.
     pub pairs: u64,
     with_rust: u64,
-    /// Rule texts, and those of them whose line of refusal the Rust gave.
+    /// Rule texts, and those of them that the Rust refuses too.
     texts: u64,
-    lines: u64,
+    refused: u64,
     /// Calls of build, encode and list, all and by the number that is right.
     calls: [u64; 3],
     numbers: [[u64; 13]; 3],
@@ -48,7 +48,7 @@ impl<'a> Runs<'a> {
             pairs: 0,
             with_rust: 0,
             texts: 0,
-            lines: 0,
+            refused: 0,
             calls: [0; 3],
             numbers: [[0; 13]; 3],
             shown: BTreeSet::new(),
@@ -88,7 +88,7 @@ impl<'a> Runs<'a> {
             }
         }
         if matches!(answer, Err(fault) if fault.number == 3) {
-            self.lines += 1;
+            self.refused += 1;
         }
         let make = |lent| Case::Build { text: text.to_vec(), folding, lent };
         if let Some(told) = told {
@@ -189,7 +189,7 @@ impl<'a> Runs<'a> {
 
     /// Prints the counts and, last, how many differences there were.
     pub fn tell(&self) {
-        println!("{} rule texts, {} of them refused at the Rust's own line", self.texts, self.lines);
+        println!("{} rule texts, {} of them refused by the Rust too", self.texts, self.refused);
         println!("{} (rules, name) pairs, the codes of {} of them given by the Rust", self.pairs, self.with_rust);
         for (call, words) in ["build", "encode", "list"].iter().enumerate() {
             let numbers = self.numbers[call].iter().enumerate().filter(|(_, times)| **times > 0);

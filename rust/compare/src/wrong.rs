@@ -11,10 +11,12 @@ use std::str::Utf8Error;
 use zengilvar::raw::{Built, Coded};
 
 /// Every mistake: its name, and what the coder does.
-pub const MISTAKES: [(&str, &str); 47] = [
+pub const MISTAKES: [(&str, &str); 49] = [
     ("length_rising", "sorts patterns of one letter by length rising"),
     ("text_order_reversed", "sorts patterns of one length against the text's order"),
     ("line_of_8", "tells one line more with refusal 8"),
+    ("rust_line", "tells the Rust's line with refusal 3"),
+    ("line_behind", "counts the newline of an item that is not recognised too"),
     ("written_before_9", "writes a byte and then refuses with 9"),
     ("zero_behind_plate", "puts a zero behind the plate"),
     ("lower_178", "does not lower U+0178"),
@@ -368,14 +370,27 @@ impl Wrong {
             }
         }
     }
+
+    /// The line that is told of a fault in a text.
+    fn line(&self, text: &[u8], fault: text::Fault) -> u64 {
+        let newlines = text.iter().filter(|byte| **byte == b'\n').count() as u64;
+        match fault.number {
+            8 if self.is("line_of_8") => fault.line + 1,
+            3 if self.is("line_behind") => fault.line + (fault.line <= newlines) as u64,
+            3 if self.is("rust_line") => {
+                let text = std::str::from_utf8(text).expect("the judge has read it");
+                oracle::build(text, true).err().expect("the Rust refuses it too") as u64
+            }
+            _ => fault.line,
+        }
+    }
 }
 
 impl Calls for Wrong {
     fn build(&self, text: &[u8], folding: bool, out: &mut [u8]) -> Built {
         match text::read(text, folding) {
             Err(fault) => {
-                let more = (self.is("line_of_8") && fault.number == 8) as u64;
-                Built { number: fault.number, line: fault.line + more, length: 0 }
+                Built { number: fault.number, line: self.line(text, fault), length: 0 }
             }
             Ok(content) => {
                 let plate = plate::write(&self.sorted(content));

@@ -16,10 +16,10 @@ enum Item<'a> {
     Rule([&'a str; 4]),
     Folding(char, char),
     LineEnd,
-    Comment(&'a str),
+    Comment,
 }
 
-/// A refusal: its number and its line.
+/// A refusal: its number, and of an item the line of its first byte, 1 plus the newlines before it.
 #[derive(Debug, Clone, Copy, PartialEq, Eq)]
 pub struct Fault {
     pub number: u64,
@@ -37,31 +37,31 @@ pub fn read(text: &[u8], folding: bool) -> Result<Content, Fault> {
     };
     let mut foldings = BTreeMap::new();
     let mut rules: Vec<Rule> = Vec::new();
-    let mut line = 1;
+    let fault = |number: u64, rest: &str| {
+        let before = &text[..text.len() - rest.len()];
+        Fault { number, line: 1 + before.matches('\n').count() as u64 }
+    };
     let mut rest = text;
     while !rest.is_empty() {
         let Some((item, behind)) = item(rest) else {
-            return Err(Fault { number: 3, line });
+            return Err(fault(3, rest));
         };
-        let mut more = 0;
         match item {
             Item::Rule(parts) => {
-                let rule = rule(parts).map_err(|number| Fault { number, line })?;
+                let rule = rule(parts).map_err(|number| fault(number, rest))?;
                 if rules.len() == RULES {
-                    return Err(Fault { number: 8, line });
+                    return Err(fault(8, rest));
                 }
                 rules.push(rule);
             }
             Item::Folding(key, target) => {
                 if foldings.len() == KEYS && !foldings.contains_key(&key) {
-                    return Err(Fault { number: 8, line });
+                    return Err(fault(8, rest));
                 }
                 foldings.insert(key, target);
             }
-            Item::LineEnd => {}
-            Item::Comment(inside) => more = inside.matches('\n').count() as u64 + 1,
+            Item::LineEnd | Item::Comment => {}
         }
-        line += 1 + more;
         rest = behind;
     }
     rules.sort_by(|a, b| {
@@ -128,8 +128,8 @@ fn line_end(rest: &str) -> Option<&str> {
 
 /// Form 4: `/*`, up to the first `*/` behind it, a line end.
 fn comment_form(rest: &str) -> Option<(Item<'_>, &str)> {
-    let (inside, behind) = rest.strip_prefix("/*")?.split_once("*/")?;
-    Some((Item::Comment(inside), line_end(behind)?))
+    let (_, behind) = rest.strip_prefix("/*")?.split_once("*/")?;
+    Some((Item::Comment, line_end(behind)?))
 }
 
 /// The rule of four parts, or the number of its first fault.

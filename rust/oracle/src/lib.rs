@@ -109,7 +109,9 @@ mod tests {
 
     #[test]
     fn the_line_of_an_error() {
-        assert_eq!(build("/* */\nx", true).err(), Some(3));
+        assert_eq!(build("/* */\nx", true).err(), Some(3), "its own counter: x stands in line 2");
+        assert_eq!(build("\"a\nb\" \"\" \"\" \"\"\n?", true).err(), Some(2), "its own counter: ? stands in line 3");
+        assert_eq!(build("\n=x\n?", true).err(), Some(2), "its own counter: ? stands in line 3");
         assert_eq!(build("a=b\r", true).err(), Some(1));
         assert!(build("\n =x\n// c\r\na=\r", true).is_ok());
     }

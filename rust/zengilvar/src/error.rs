@@ -9,12 +9,12 @@ use std::fmt;
 #[derive(Debug, Clone, PartialEq, Eq, PartialOrd, Ord, Hash)]
 #[non_exhaustive]
 pub struct ParseError {
-    /// The line of the refused item, counted as rphonetic counts it; 0 where the whole text is refused.
+    /// The line of the refused item's first byte; 0 where the whole text is refused. Not rphonetic's counter, which is too
+    /// high behind a block comment and too low behind a newline inside quotes.
     pub line_number: usize,
     /// None: a text has no file here.
     pub filename: Option<String>,
-    /// The text of the line at which the refused item begins. Empty where the whole text is refused, and in a text that
-    /// may fold the newline (a line that begins with `=` behind an empty one), where the place is not told.
+    /// The text of the line at which the refused item begins. Empty where the whole text is refused.
     pub line_content: String,
     /// What the refusal means.
     pub description: String,
@@ -127,17 +127,7 @@ impl From<ParseError> for PhoneticError {
     }
 }
 
-/// The line of the text at which the item with this line number begins. The library tells no place, so it is asked: an
-/// item begins at a line's front, and a text that is cut there and closed by `?` is refused with 3 at that item's line;
-/// cut at a line's front inside an item, at the line of this item. So the first front that brings the number is the
-/// item's own. Only a folding whose key is a newline could be taken for an empty line.
+/// The text of a line, counted from 1; none for 0.
 fn line_content(text: &str, line: u64) -> &str {
-    if line == 0 || text.starts_with("\n=") || text.contains("\n\n=") {
-        return "";
-    }
-    let ends = text.bytes().enumerate().filter(|(_, byte)| *byte == b'\n');
-    let fronts: Vec<usize> = std::iter::once(0).chain(ends.map(|(end, _)| end + 1)).collect();
-    let line_at = |front: usize| raw::build(format!("{}?", &text[..front]).as_bytes(), true, &mut []).line;
-    let found = fronts.partition_point(|front| line_at(*front) < line);
-    fronts.get(found).and_then(|front| text[*front..].split('\n').next()).unwrap_or("")
+    line.checked_sub(1).and_then(|before| text.split('\n').nth(before as usize)).unwrap_or("")
 }

@@ -89,15 +89,15 @@ fn around_the_examples() -> Result<(), Box<dyn std::error::Error>> {
     Ok(())
 }
 
-/// The line of an error and its text are rphonetic's own, on damaged texts; the text may be empty where one could fold
-/// the newline.
+/// The text of an error's line is rphonetic's own, on damaged texts, and stands at the line that is told. rphonetic's
+/// counter is elsewhere, above and below.
 #[test]
 fn lines_of_errors() {
     if !oracle::AT_HAND {
         return;
     }
     let mut random = Random::new(1);
-    let mut compared = 0;
+    let (mut compared, mut above, mut below) = (0, 0, 0);
     for _ in 0..20_000 {
         let taste = made::taste(&mut random, false);
         let rules = random.within(0, 6);
@@ -110,11 +110,12 @@ fn lines_of_errors() {
         };
         if error.cause.number() == 3 {
             let (line, content) = oracle::refusal(&text).expect("refused by both");
-            let may_fold = text.starts_with("\n=") || text.contains("\n\n=");
-            let wanted = if may_fold { String::new() } else { content };
-            assert_eq!((error.line_number, error.line_content), (line, wanted), "{text:?}");
+            assert_eq!(error.line_content, content, "{text:?}");
+            assert_eq!(text.split('\n').nth(error.line_number - 1), Some(content.as_str()), "{text:?}");
             compared += 1;
+            above += (line > error.line_number) as u64;
+            below += (line < error.line_number) as u64;
         }
     }
-    assert!(compared > 1_000, "{compared}");
+    assert!(compared > 1_000 && above > 0 && below > 0, "{compared}, {above} above, {below} below");
 }

@@ -76,7 +76,7 @@ enter-rule-requires : tie.Need-enter-rule-requires
 enter-rule-requires c κs =
     let k = c .before .before .before .before .before .before .before .before .before .before .before .before .before .pre .0 in
     let w = rw (c .before .before .before .before .before .before .pattern .given .1) at (c .before .before .before .before .before .before .before .before .item .ensures .1) in
-    let b = bounded (c .before .before .before .before .before .before .before .before .before .before .before .before .before .args .tally) _ k (c .before .before .before .before .before .before .before .before .before .before .before .before .before .pre .1) (w .8) in (k .room, b .0, b .1, b .2, b .3)
+    let b = bounded (c .before .before .before .before .before .before .before .before .before .before .before .before .before .args .tally) _ k (c .before .before .before .before .before .before .before .before .before .before .before .before .before .pre .1) (w .8) in (k .room, b .0, b .1, b .2)
 
 enum-known-key : tie.Need-enum-known-key
 enum-known-key c = search needs
@@ -85,7 +85,7 @@ enter-folding-requires : tie.Need-enter-folding-requires
 enter-folding-requires c κs =
     let k = c .before .before .before .before .before .before .before .before .before .pre .0 in
     let w = rw (c .before .before .key .given .1) at (c .before .before .before .before .item .ensures .1) in
-    let b = bounded (c .before .before .before .before .before .before .before .before .before .args .tally) _ k (c .before .before .before .before .before .before .before .before .before .pre .1) (w .0) in (k .roomPairs, k .fewPairs, w .2, w .4, b .0, b .1, b .2)
+    let b = bounded (c .before .before .before .before .before .before .before .before .before .args .tally) _ k (c .before .before .before .before .before .before .before .before .before .pre .1) (w .0) in (k .roomPairs, k .fewPairs, w .2, w .4, b .0, b .1)
 
 enum-known-next : tie.Need-enum-known-next
 enum-known-next c = search needs
@@ -94,22 +94,16 @@ pass-requires : tie.Need-pass-requires
 pass-requires c κs =
     let k = c .before .before .before .before .before .before .before .before .pre .0 in
     let w = rw (c .before .next .given .1) at (c .before .before .before .item .ensures .1) in
-    let b = bounded (c .before .before .before .before .before .before .before .before .args .tally) _ k (c .before .before .before .before .before .before .before .before .pre .1) (w .0) in (b .0, b .1, b .2, omega arith)
+    let b = bounded (c .before .before .before .before .before .before .before .before .args .tally) _ k (c .before .before .before .before .before .before .before .before .pre .1) (w .0) in (b .0, b .1)
 
-enum-known-newlines : tie.Need-enum-known-newlines
-enum-known-newlines c = search needs
-
-add-pass : tie.Need-add-pass
-add-pass c =
-    let k = c .before .before .before .before .before .before .before .before .pre .0 in
-    let w = rw (c .before .newlines .given .1) at (c .before .before .before .item .ensures .1) in
-    let b = bounded (c .before .before .before .before .before .before .before .before .args .tally) _ k (c .before .before .before .before .before .before .before .before .pre .1) (w .1) in omega (arith, w .0, b .1)
+enum-known-next-2 : tie.Need-enum-known-next-2
+enum-known-next-2 c = search needs
 
 pass-requires-2 : tie.Need-pass-requires-2
 pass-requires-2 c κs =
     let k = c .before .before .before .before .before .before .before .before .pre .0 in
-    let w = rw (c .before .newlines .given .1) at (c .before .before .before .item .ensures .1) in
-    let b = bounded (c .before .before .before .before .before .before .before .before .args .tally) _ k (c .before .before .before .before .before .before .before .before .pre .1) (w .1) in (b .0, b .1, b .2, omega (arith, w .0, b .1))
+    let w = rw (c .before .next2 .given .1) at (c .before .before .before .item .ensures .1) in
+    let b = bounded (c .before .before .before .before .before .before .before .before .args .tally) _ k (c .before .before .before .before .before .before .before .before .pre .1) (w .1) in (b .0, b .1)
 
 enum-told : tie.Need-enum-told
 enum-told c = search needs
@@ -140,7 +134,7 @@ returns-4 : tie.Need-returns-4
 returns-4 c =
     let a = c .before .before .before .before .before .before .before .before .before .args in
     subst (λ (t : Tally). TurnIs (a .text .now) (a .tally) (a .keys .now) (a .foldings .now) (a .keys .now) (a .foldings .now) (On t)) (sym (c .pass2 .ensures))
-    (comment-turn (a .text .now) (a .tally) (a .keys .now) (a .foldings .now) (c .before .before .before .before .before .before .before .before .before .pre .0) (c .before .before .before .before .before .before .before .before .before .pre .1) (c .before .before .newlines .given .0 .0) (c .before .before .newlines .given .0 .1 .0) (c .before .before .before .before .item .ensures) (c .before .before .newlines .given .1))
+    (comment-turn (a .text .now) (a .tally) (a .keys .now) (a .foldings .now) (c .before .before .before .before .before .before .before .before .before .pre .0) (c .before .before .before .before .before .before .before .before .before .pre .1) (c .before .before .next2 .given .0 .0) (c .before .before .before .before .item .ensures) (c .before .before .next2 .given .1))
 
 returns-5 : tie.Need-returns-5
 returns-5 c =
@@ -173,8 +167,7 @@ enter-spec =
     enter-folding-requires
     enum-known-next
     pass-requires
-    enum-known-newlines
-    add-pass
+    enum-known-next-2
     pass-requires-2
     enum-told
     same-length

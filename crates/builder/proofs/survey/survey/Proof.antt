@@ -4,7 +4,7 @@ use mathlib.Core.Path.{_≡_, refl, sym, _∙_}
 use native.Mathlib.Omega.{arith}
 use borrow.Author.Needs.{needs}
 use lib.ListN.{length}
-use Rattle.rule_text.specs.Items.{items, firstLine}
+use Rattle.rule_text.specs.Items.{items}
 use Rattle.builder.specs.Build.{blank, verdict}
 use Rattle.builder.specs.Survey.{Kept, onward}
 use Rattle.builder.proofs.Turns.{survey-start, survey-end}
@@ -12,7 +12,7 @@ use Rattle.builder.proofs.survey.survey.Statement.{statement}
 use Rattle.builder.proofs.survey.survey.Tie as tie
 
 abbrev Inv-loop : tie.InvT-loop
-Inv-loop text keys₀ foldings₀ tally₀ keys foldings tally = Kept text tally keys foldings × (onward text tally keys foldings ≡ verdict firstLine blank (items text))
+Inv-loop text keys₀ foldings₀ tally₀ keys foldings tally = Kept text tally keys foldings × (onward text tally keys foldings ≡ verdict blank (items text))
 
 abbrev μ-loop : tie.MeasureT-loop
 μ-loop text keys₀ foldings₀ tally₀ keys foldings tally = length text - tally .at

@@ -23,7 +23,7 @@ other : (l : List ℕ) (r : Entry) → Flawless (said l r)
 other l (E.Rule p p2 s s2 v v2 o o2 next) f k = ⊎-elim (λ e. omega arith) (λ k. ⊎-elim (λ e. omega arith) (λ k. ⊎-elim (λ e. omega arith) (λ e. omega arith) k) k) k
 other l (E.Folding key target next) f k = f
 other l (E.LineEnd next) f k = f
-other l (E.Comment newlines next) f k = f
+other l (E.Comment next) f k = f
 other l E.Unknown f k = f
 
 sub-rest : tie.Need-sub-rest

@@ -33,8 +33,8 @@ enum-known-next c = search needs
 line-end-requires : tie.Need-line-end-requires
 line-end-requires c κs = search needs
 
-enum-known-newlines : tie.Need-enum-known-newlines
-enum-known-newlines c = search needs
+enum-known-next-2 : tie.Need-enum-known-next-2
+enum-known-next-2 c = search needs
 
 block-comment-requires : tie.Need-block-comment-requires
 block-comment-requires c κs = search needs
@@ -55,7 +55,7 @@ returns-3 : tie.Need-returns-3
 returns-3 c = known (Lies (length (c .before .before .before .before .before .before .args .rest .now))) (c .before .before .before .before .item .ensures) (c .before .before .next .given .1) .1 .0
 
 returns-4 : tie.Need-returns-4
-returns-4 c = known (Lies (length (c .before .before .before .before .before .before .args .rest .now))) (c .before .before .before .before .item .ensures) (c .before .before .newlines .given .1) .1 .1
+returns-4 c = known (Lies (length (c .before .before .before .before .before .before .args .rest .now))) (c .before .before .before .before .item .ensures) (c .before .before .next2 .given .1) .1 .1
 
 returns-5 : tie.Need-returns-5
 returns-5 c = search needs
@@ -73,7 +73,7 @@ show-item-spec =
     folding-requires
     enum-known-next
     line-end-requires
-    enum-known-newlines
+    enum-known-next-2
     block-comment-requires
     enum-told
     unknown-requires

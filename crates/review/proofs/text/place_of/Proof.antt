@@ -1,15 +1,16 @@
--- `place_of` ends: each turn takes an item. Assumes nothing.
+-- `place_of` ends: each turn takes a byte. Assumes nothing.
 use Prim.Native.Nat.{_≤_, _-_}
+use mathlib.Core.Path.{_≡_}
 use borrow.Author.Needs.{needs}
 use lib.ListN.{length}
 use Rattle.review.proofs.text.place_of.Statement.{statement}
 use Rattle.review.proofs.text.place_of.Tie as tie
 
 abbrev Inv-loop : tie.InvT-loop
-Inv-loop text line at₀ count₀ at count = at ≤ length text
+Inv-loop text line n₀ i₀ i-end n i = (i ≤ i-end) × (i-end ≡ length text)
 
 abbrev μ-loop : tie.MeasureT-loop
-μ-loop text line at₀ count₀ at count = length text - at
+μ-loop text line n₀ i₀ i-end n i = i-end - i
 
 loop-holds : tie.Need-loop-holds Inv-loop μ-loop
 loop-holds c = search needs
@@ -17,23 +18,17 @@ loop-holds c = search needs
 returns : tie.Need-returns Inv-loop μ-loop
 returns c = search needs
 
-sub-first-item : tie.Need-sub-first-item Inv-loop μ-loop
-sub-first-item c = search needs
+shared-slice-read-is-newline : tie.Need-shared-slice-read-is-newline Inv-loop μ-loop
+shared-slice-read-is-newline c = search needs
 
-part-first-item-start : tie.Need-part-first-item-start Inv-loop μ-loop
-part-first-item-start c = search needs
-
-part-first-item-end : tie.Need-part-first-item-end Inv-loop μ-loop
-part-first-item-end c = search needs
-
-first-item-requires : tie.Need-first-item-requires Inv-loop μ-loop
-first-item-requires c κs = search needs
+is-newline-requires : tie.Need-is-newline-requires Inv-loop μ-loop
+is-newline-requires c κs = search needs
 
 wrapping-add-u64-requires : tie.Need-wrapping-add-u64-requires Inv-loop μ-loop
 wrapping-add-u64-requires c κs = search needs
 
-behind-requires : tie.Need-behind-requires Inv-loop μ-loop
-behind-requires c κs = search needs
+add-i : tie.Need-add-i Inv-loop μ-loop
+add-i c = search needs
 
 loop-less : tie.Need-loop-less Inv-loop μ-loop
 loop-less c = search needs
@@ -52,12 +47,10 @@ place-of-spec =
     μ-loop
     loop-holds
     returns
-    sub-first-item
-    part-first-item-start
-    part-first-item-end
-    first-item-requires
+    shared-slice-read-is-newline
+    is-newline-requires
     wrapping-add-u64-requires
-    behind-requires
+    add-i
     loop-less
     loop-again
     returns-2)

@@ -2,7 +2,7 @@
 use mathlib.Core.Path.{sym, _∙_}
 use lib.ListN.{length}
 use Rattle.laws.proofs.Parts.{known}
-use Rattle.rule_text.specs.Answers.{Blocks}
+use Rattle.rule_text.specs.Answers.{Comments}
 use Rattle.rule_text.proofs.Entries.{from-comment}
 use borrow.Author.Needs.{needs}
 use Rattle.rule_text.proofs.item.no_line_end.Statement.{statement}
@@ -11,8 +11,8 @@ use Rattle.rule_text.proofs.item.no_line_end.Tie as tie
 multiline-comment-requires : tie.Need-multiline-comment-requires
 multiline-comment-requires c κs = search needs
 
-enum-known-newlines : tie.Need-enum-known-newlines
-enum-known-newlines c = search needs
+enum-known-next : tie.Need-enum-known-next
+enum-known-next c = search needs
 
 enum-told : tie.Need-enum-told
 enum-told c = search needs
@@ -25,9 +25,9 @@ returns c =
 returns-2 : tie.Need-returns-2
 returns-2 c =
     let l = c .before .before .before .before .before .args .rest .now in
-    let e = known (Blocks (length l)) (c .before .before .before .multiline-comment .ensures) (c .before .newlines .given .1) in
+    let e = known (Comments (length l)) (c .before .before .before .multiline-comment .ensures) (c .before .next .given .1) in
     (sym (from-comment l (e .0)), e .1)
 
 pub no-line-end-spec : {M : Type 1} → statement M
 no-line-end-spec =
-    tie.close (tie.spec multiline-comment-requires enum-known-newlines enum-told returns returns-2)
+    tie.close (tie.spec multiline-comment-requires enum-known-next enum-told returns returns-2)
