@@ -1,13 +1,5 @@
-pub mod Faults
-pub mod Sorted
 pub mod Goods
-pub mod Bars
-pub mod Inks
-pub mod Keys
-pub mod Orders
-pub mod Ways
-pub mod Measures
-pub mod Scripts
 pub mod Turns
+pub mod Again
 pub mod Replies
 pub mod Only

@@ -5,18 +5,19 @@ use mathlib.Core.Bool.{Bool, cond}
 use mathlib.Core.List.{List}
 use lib.Dec.{eqb}
 use Rattle.laws.proofs.Only.{only}
+use Rattle.book.specs.declared.Flaw.the-variants.{EmptyPattern, LongPattern, ManyAlternatives, NotDigits, TooMany}
 use Rattle.builder.specs.Build as Build
 use Rattle.builder.specs.Build.{buildAnswer}
 use Rattle.builder.specs.Outcome.{told}
 use Rattle.builder.specs.declared.Fault.{Fault}
-use Rattle.builder.specs.declared.Fault.the-variants.{NotRecognised, EmptyPattern, LongPattern, ManyAlternatives, NotDigits, TooMany}
+use Rattle.builder.specs.declared.Fault.the-variants.{NotRecognised, Flawed}
 use Rattle.builder.specs.declared.Built.{Built}
 use Rattle.builder.specs.declared.Built.the-variants.{Plate, LongText, NotText, Faulty, ShortBuffer}
 
 abbrev faultOf : ℕ → Fault
 faultOf n =
     cond (eqb n 3) NotRecognised
-    (cond (eqb n 4) EmptyPattern (cond (eqb n 5) LongPattern (cond (eqb n 6) ManyAlternatives (cond (eqb n 7) NotDigits TooMany))))
+    (Flawed (cond (eqb n 4) EmptyPattern (cond (eqb n 5) LongPattern (cond (eqb n 6) ManyAlternatives (cond (eqb n 7) NotDigits TooMany)))))
 
 -- the answer that number, line and length give
 abbrev back : Build.Built → Built
@@ -30,11 +31,11 @@ back-told (Plate n) out = refl
 back-told LongText out = refl
 back-told NotText out = refl
 back-told (Faulty NotRecognised line) out = refl
-back-told (Faulty EmptyPattern line) out = refl
-back-told (Faulty LongPattern line) out = refl
-back-told (Faulty ManyAlternatives line) out = refl
-back-told (Faulty NotDigits line) out = refl
-back-told (Faulty TooMany line) out = refl
+back-told (Faulty (Flawed EmptyPattern) line) out = refl
+back-told (Faulty (Flawed LongPattern) line) out = refl
+back-told (Faulty (Flawed ManyAlternatives) line) out = refl
+back-told (Faulty (Flawed NotDigits) line) out = refl
+back-told (Faulty (Flawed TooMany) line) out = refl
 back-told ShortBuffer out = refl
 
 -- The buffer afterwards is told as it is.

@@ -14,17 +14,19 @@ use Rattle.chars.specs.declared.Checked.{Checked}
 use Rattle.chars.specs.declared.Checked.the-variants.{BadAt, Text}
 use Rattle.chars.proofs.Checks.{says}
 use Rattle.rule_text.specs.Items.{items, lineOf}
+use Rattle.book.specs.Book.{Book, blank}
+use Rattle.book.specs.Pen.{Stored}
+use Rattle.book.specs.Writing.{bytesOf}
 use Rattle.builder.specs.Build as Build
-use Rattle.builder.specs.Build.{Book, blank, verdict, refusal, delivered, answered, nonzero, buildAnswer}
+use Rattle.builder.specs.Build.{verdict, refusal, delivered, answered, nonzero, buildAnswer}
 use Rattle.builder.specs.Build.Verdict.{Faulty, Fine}
-use Rattle.builder.specs.Pen.{Stored}
-use Rattle.builder.specs.Writing.{bytesOf}
 
 -- Each byte is nonzero where none is zero.
 none-zero : (l : List ℕ) → every nonzero l ≡ not (some isZero l)
 none-zero [] = refl
 none-zero (zero ∷ xs) = refl
-none-zero (suc n ∷ xs) = ap (λ (t : Bool). t && every nonzero xs) (lt-ltb 0 (suc n) (omega arith)) ∙ none-zero xs ∙ ap (λ (t : Bool). not (t || some isZero xs)) (sym (ne-eqb (suc n) 0 (λ e. omega arith)))
+none-zero (suc n ∷ xs) = ap (λ (t : Bool). t && every nonzero xs) (lt-ltb 0 (suc n) (omega arith)) ∙ none-zero xs ∙ ap (λ (t : Bool). not (t || some isZero xs))
+    (sym (ne-eqb (suc n) 0 (λ e. omega arith)))
 
 module _ (text : List ℕ) (flag : Bool) (lent : List ℕ) where
   pub too-long : 65536 < length text → refusal 1 0 lent ≡ buildAnswer text flag lent

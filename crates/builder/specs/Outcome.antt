@@ -3,7 +3,7 @@ use Prim.Native.Nat.{ℕ}
 use mathlib.Core.List.{List}
 use Rattle.builder.specs.Build as Build
 use Rattle.builder.specs.Build.{refusal}
-use Rattle.builder.specs.Survey.{numberOf}
+use Rattle.builder.specs.Survey.{faultNumber}
 use Rattle.builder.specs.declared.Built.{Built}
 use Rattle.builder.specs.declared.Built.the-variants.{Plate, LongText, NotText, Faulty, ShortBuffer}
 
@@ -11,5 +11,5 @@ abbrev pub told : Built → List ℕ → Build.Built
 told (Plate length) out = record { number = 0; line = 0; length = length; buffer = out }
 told LongText out = refusal 1 0 out
 told NotText out = refusal 2 0 out
-told (Faulty fault line) out = refusal (numberOf fault) line out
+told (Faulty fault line) out = refusal (faultNumber fault) line out
 told ShortBuffer out = refusal 9 0 out

@@ -1,17 +1,16 @@
 -- Worked plates, built from their texts, and the line of a refusal, by computation. The third plate was made by a writer of its own, from 01's words.
 -- Assumes nothing.
 use Prim.Native.Nat.{ℕ, _-_}
-use mathlib.Core.Path.{_≡_, refl}
 use mathlib.Core.Bool.{Bool, true, false, not, _&&_, _||_}
 use mathlib.Core.List.{List, [], _∷_, _++_}
 use lib.Dec.{T, eqb}
 use lib.ListN.{length, replicate}
-use Rattle.laws.specs.Lists.{same, splitAt}
+use Rattle.laws.specs.Lists.{same, until, countOf, splitAt}
 use Rattle.chars.specs.Utf8.{textFrom}
 use Rattle.chars.specs.Quoted.{bytes, lines}
-use Rattle.rule_text.specs.Forms.{entry, quadruplet, folding, multilineComment, endOfLine, ending, comment, blanks, until, count, later, pairAt, lineAt, part, plain, escaped, partAt, letterAt, closing}
+use Rattle.rule_text.specs.Forms.{entry, quadruplet, folding, multilineComment, endOfLine, ending, comment, blanks, later, pairAt, lineAt, part, plain, escaped, partAt, letterAt, closing}
 use Rattle.rule_text.specs.Items.{throughNewline, itemsFrom}
-use Rattle.builder.specs.Build.{Built, buildAnswer, verdict, ruleFault}
+use Rattle.builder.specs.Build.{Built, buildAnswer, verdict}
 use Rattle.plate.specs.Worked.{whole}
 
 -- 01: "Empty text, flag on: `01 00 00 20`."
@@ -48,7 +47,8 @@ pub worked : T (
     && (builds [] true empty && builds mixed false ordering)
     && not (builds one false whole || builds [] true whole || builds mixed true ordering || builds (bytes "?") true [])
     )
-unfolding buildAnswer verdict textFrom splitAt entry quadruplet folding multilineComment endOfLine ending comment blanks until count later pairAt lineAt part plain escaped partAt letterAt closing itemsFrom
+unfolding buildAnswer verdict textFrom splitAt entry quadruplet folding multilineComment endOfLine ending comment blanks until countOf later pairAt lineAt part
+    plain escaped partAt letterAt closing itemsFrom
 worked = tt
 
 -- a text is refused with this number, and this line is given
@@ -61,10 +61,6 @@ pub lines-worked : T (
     && (refused (bytes "\"a\nb\" \"\" \"\" \"\"\n?") 3 3 && (refused (bytes "\n=\n\n?") 3 4 && refused (bytes "\"a\" \"1\n\" \"\" \"\"\n") 7 1))
     && not (refused (bytes "/*\n*/\r\n\n?\n") 3 5 || refused (bytes "\"a\" \"1\n\" \"\" \"\"\n") 7 2)
     )
-unfolding buildAnswer verdict textFrom splitAt entry quadruplet folding multilineComment endOfLine ending comment blanks until count later pairAt lineAt part plain escaped partAt letterAt closing throughNewline itemsFrom
+unfolding buildAnswer verdict textFrom splitAt entry quadruplet folding multilineComment endOfLine ending comment blanks until countOf later pairAt lineAt part
+    plain escaped partAt letterAt closing throughNewline itemsFrom
 lines-worked = tt
-
--- 8: "rule 513", when 512 stand before it
-pub full : (ruleFault (bytes "a") [] [] [] 511 ≡ 0) × (ruleFault (bytes "a") [] [] [] 512 ≡ 8) × (ruleFault (bytes "a") [] [] (bytes "x") 512 ≡ 7)
-unfolding splitAt
-full = (refl, refl, refl)

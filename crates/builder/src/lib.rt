@@ -1,26 +1,28 @@
 // From rule text to a plate. 01: "Build checks 1, then 2 (whole text), then items front to back, the first fault in the text deciding. [..] Last 9."
-mod pen; // pen.rt: bits written one behind the other
-mod sort; // sort.rt: rules and foldings in the plate's order
-mod survey; // survey.rt: the items front to back, the first fault deciding
-mod write; // write.rt: what a text says, written as a plate's bits
+mod survey; // survey.rt: the items front to back, noted in the book, the first fault deciding
+mod write; // write.rt: what is noted, written as a plate
 
 ghost use mathlib.Core.Path.{_≡_};
 ghost use Rattle.builder.specs.Build.{buildAnswer};
 ghost use Rattle.builder.specs.Outcome.{told};
+use book::Flaw;
+use book::MOST_FOLDINGS;
+use book::MOST_RULES;
 use chars::Checked;
 use chars::utf8::check_text;
 use rule_text::item::line_of;
 use survey::Surveyed;
 use write::write_plate;
 
-// What is wrong with an item: 01's refusals 3 to 8.
+const LONGEST_TEXT: usize = 65536;
+
+// What splits a field of rule text.
+const BAR: u8 = b'|';
+
+// What is wrong with an item: 01's refusal 3, or what the book finds, 4 to 8.
 pub enum Fault {
     NotRecognised,
-    EmptyPattern,
-    LongPattern,
-    ManyAlternatives,
-    NotDigits,
-    TooMany,
+    Flawed(Flaw),
 }
 
 // What build answers: the plate's length in bytes, or why there is none; with a fault the line of its item.
@@ -36,7 +38,7 @@ pub enum Built {
 pub fn build(text: &[u8], flag: bool, out: &mut [u8]) -> Built
     ensures { λ r. ⌜ told r (now (out .exit)) ≡ buildAnswer (now (text .entry)) flag (now (out .entry)) ⌝ }
 {
-    if 65536 < text.len() {
+    if LONGEST_TEXT < text.len() {
         return Built::LongText;
     }
     let Checked::Text(holds_zero) = check_text(text) else {
@@ -45,8 +47,8 @@ pub fn build(text: &[u8], flag: bool, out: &mut [u8]) -> Built
     if holds_zero {
         return Built::NotText;
     }
-    let mut keys = [0u64; 512];
-    let mut foldings = [0u64; 128];
+    let mut keys = [0u64; MOST_RULES];
+    let mut foldings = [0u64; MOST_FOLDINGS];
     match survey::survey(text, &mut keys, &mut foldings) {
         Surveyed::Faulty(fault, at) => Built::Faulty(fault, line_of(text, at)),
         Surveyed::Fine(tally) => {

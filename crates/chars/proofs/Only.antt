@@ -2,8 +2,9 @@
 use mathlib.Core.Path.{_≡_}
 use mathlib.Core.Bool.{Bool}
 use mathlib.Core.List.{List, [], _∷_}
-use Prim.Native.Nat.{ℕ}
+use Prim.Native.Nat.{ℕ, _≤_}
 use lib.ListN.{length, drop}
+use Rattle.laws.specs.Lists.{until, countOf}
 use Rattle.laws.proofs.Only.{only}
 use Rattle.chars.specs.Utf8.{scalar, charOf}
 use Rattle.chars.specs.Letters.{white, lowerOf}
@@ -36,3 +37,9 @@ lowers r r′ e f = only e f
 
 pub lower : (c r r′ : ℕ) → r ≡ lowerOf c → r′ ≡ lowerOf c → r ≡ r′
 lower c r r′ e f = only e f
+
+pub count-until : (l : List ℕ) (b r r′ : ℕ) → (r ≡ until b l) × (r ≤ length l) → (r′ ≡ until b l) × (r′ ≤ length l) → r ≡ r′
+count-until l b r r′ e f = only (e .0) (f .0)
+
+pub count-of : (l : List ℕ) (b r r′ : ℕ) → (r ≡ countOf b l) × (r ≤ length l) → (r′ ≡ countOf b l) × (r′ ≤ length l) → r ≡ r′
+count-of l b r r′ e f = only (e .0) (f .0)

@@ -1,7 +1,8 @@
-// Characters: UTF-8, White_Space, vowels, lowercase.
+// Characters: UTF-8, White_Space, vowels, lowercase; and bytes counted.
 pub mod utf8; // utf8.rt: the character at a place; whole texts
 pub mod letters; // letters.rt: White_Space and vowels
 pub mod lower; // lower.rt: lowercase, by a table
+pub mod scan; // scan.rt: bytes counted
 
 // What stands in front of some bytes: a character with its width in bytes, a sequence that is not UTF-8, or nothing.
 pub enum Char {

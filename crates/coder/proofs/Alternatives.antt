@@ -75,7 +75,8 @@ module _ (f : List (List ℕ)) (eight : length f ≤ 8) (good : every isAlternat
   field-ok =
       record {
         small = eight;
-        long = length-append (map heldAlternative f) (replicate (8 - length f) (heldAlternative [])) ∙ ap₂ _+_ (length-map f heldAlternative) (length-replicate (8 - length f) (heldAlternative [])) ∙ omega arith;
+        long = length-append (map heldAlternative f) (replicate (8 - length f) (heldAlternative [])) ∙ ap₂ _+_ (length-map f heldAlternative) (length-replicate
+            (8 - length f) (heldAlternative [])) ∙ omega arith;
         each = subst (Each AlternativeOk) (sym firsts) (each-held f good .0);
         clear = drop-at (map heldAlternative f) (replicate (8 - length f) (heldAlternative [])) (length f) (length-map f heldAlternative);
       }

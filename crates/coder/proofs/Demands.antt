@@ -32,7 +32,8 @@ use Rattle.coder.proofs.Answers.{judged}
 coded-chars : (call : List Use → List ℕ → Coded) (p : Plate) (name lent : List ℕ) → codedBy call p name lent .number ≡ 0 → named p name ≡ Chars (prepared p name)
 coded-chars call p name lent e = go (ltb 256 (length name)) (isText name) (every allowed (charsOf name)) e
   where
-    go : (long text fine : Bool) → answered call (p .rules) (judged long text fine (failPlace allowed name) (badPlace name) (prepared p name)) lent .number ≡ 0 → judged long text fine (failPlace allowed name) (badPlace name) (prepared p name) ≡ Chars (prepared p name)
+    go : (long text fine : Bool) → answered call (p .rules) (judged long text fine (failPlace allowed name) (badPlace name)
+        (prepared p name)) lent .number ≡ 0 → judged long text fine (failPlace allowed name) (badPlace name) (prepared p name) ≡ Chars (prepared p name)
     go true text fine e = absurd (omega arith)
     go false true true e = refl
     go false true false e = absurd (omega arith)

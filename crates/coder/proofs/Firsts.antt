@@ -105,7 +105,8 @@ under-six : (lent : List ℕ) → ltb (room lent) 1 ≡ ltb (length lent) 6
 unfolding room
 under-six lent =
     by-order (ltb (room lent) 1 ≡ ltb (length lent) 6) (length lent) 6
-    (λ h. lt-ltb (room lent) 1 (by-test (λ (m : ℕ). m < 1) (leb 64 ((length lent + 1) / 7)) 64 ((length lent + 1) / 7) (λ e. let l = leb-true 64 ((length lent + 1) / 7) e in absurd (omega arith)) (λ e. omega arith)) ∙ sym (lt-ltb (length lent) 6 h))
+    (λ h. lt-ltb (room lent) 1 (by-test (λ (m : ℕ). m < 1) (leb 64 ((length lent + 1) / 7)) 64 ((length lent + 1) / 7) (λ e. let l = leb-true 64
+    ((length lent + 1) / 7) e in absurd (omega arith)) (λ e. omega arith)) ∙ sym (lt-ltb (length lent) 6 h))
     (λ h. le-ltb (room lent) 1 (by-test (λ (m : ℕ). 1 ≤ m) (leb 64 ((length lent + 1) / 7)) 64 ((length lent + 1) / 7) (λ e. omega arith) (λ e. omega arith)) ∙ sym (le-ltb (length lent) 6 h))
 
 -- Encode is list over first alternatives.

@@ -51,7 +51,8 @@ module _ (c : ℕ) (cs : List ℕ) where
   -- So the group decides.
   group-hit : (rs : List Rule) (first behind : ℕ) → every goodRule rs ≡ true → GroupIs rs c first behind → hitFrom false rs c cs ≡ hitFrom false (slice first behind rs) c cs
   group-hit rs first behind g h =
-      let front : take first rs ++ slice first behind rs ≡ take behind rs = ap (λ (l : List Rule). l ++ slice first behind rs) (sym (take-take first behind rs (h .rising))) ∙ take-append-drop first (take behind rs) in
+      let front : take first rs ++ slice first behind rs ≡ take behind rs = ap (λ (l : List Rule). l ++ slice first behind rs) (sym (take-take first behind rs
+      (h .rising))) ∙ take-append-drop first (take behind rs) in
       let whole : take first rs ++ slice first behind rs ++ drop behind rs ≡ rs = ap (λ (l : List Rule). l ++ drop behind rs) front ∙ take-append-drop behind rs in
       ap (λ (l : List Rule). hitFrom false l c cs) (sym whole)
       ∙ stop false (take first rs ++ slice first behind rs) (drop behind rs) (every-drop goodRule behind rs g) (h .after)

@@ -142,7 +142,8 @@ first-match (r ∷ more) c cs g o =
         case (ltb (length (letters r)) (length (letters q))) refl (shorter-bytes (letters r) (letters q) (c ∷ cs) fr (k .1))
         (subst (λ (n : ℕ). n ≤ length (bytesOfAll (letters r))) (ap length (pattern-is q gq)) (subst (λ (n : ℕ). length (q .pattern) ≤ n) (ap length (pattern-is r gr)) fall))
       where
-        case : {m n : ℕ} (t : Bool) → ltb m n ≡ t → (m < n → length (bytesOfAll (letters r)) < length (bytesOfAll (letters q))) → length (bytesOfAll (letters q)) ≤ length (bytesOfAll (letters r)) → n ≤ m
+        case : {m n : ℕ} (t : Bool) → ltb m n ≡ t → (m < n → length (bytesOfAll (letters r)) < length (bytesOfAll (letters q))) → length (bytesOfAll
+            (letters q)) ≤ length (bytesOfAll (letters r)) → n ≤ m
         case {m} {n} true e f k = absurd (omega (arith, f (ltb-true m n e), k))
         case {m} {n} false e f k = ltb-false m n e
 

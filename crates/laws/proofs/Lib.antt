@@ -1,5 +1,7 @@
 pub mod Tests
 pub mod Lists
+pub mod Counts
+pub mod Splits
 pub mod Only
 pub mod Table
 pub mod Bits

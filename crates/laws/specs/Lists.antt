@@ -1,6 +1,6 @@
 -- Words on tests and lists that the definitions of several layers use.
 -- Assumes nothing.
-use Prim.Native.Nat.{ℕ, _-_}
+use Prim.Native.Nat.{ℕ, suc, _-_}
 use mathlib.Core.Path.{_≡_}
 use mathlib.Core.Logic.{_⊎_}
 use mathlib.Core.Bool.{Bool, true, false, cond, _&&_, _||_}
@@ -43,6 +43,16 @@ begins (x ∷ xs) (y ∷ ys) = eqb x y && begins xs ys
 -- what stands from one place up to another
 abbrev pub cut : List ℕ → ℕ → ℕ → List ℕ
 cut l from to = take (to - from) (drop from l)
+
+-- how many stand before the first b; all of them where there is none
+unfoldable pub until : ℕ → List ℕ → ℕ
+until b [] = 0
+until b (x ∷ xs) = cond (eqb x b) 0 (suc (until b xs))
+
+-- how many are b
+unfoldable pub countOf : ℕ → List ℕ → ℕ
+countOf b [] = 0
+countOf b (x ∷ xs) = cond (eqb x b) (suc (countOf b xs)) (countOf b xs)
 
 -- c in front of the first of some lists
 abbrev pub onto : ℕ → List (List ℕ) → List (List ℕ)

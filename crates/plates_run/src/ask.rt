@@ -2,6 +2,7 @@
 // what was written is accepted.
 ghost use mathlib.Core.Path.{_≡_};
 ghost use lib.ListN.{length};
+use book::Flaw;
 use builder::Built;
 use builder::Fault;
 use builder::build;
@@ -22,14 +23,20 @@ pub(crate) fn plate_buffer() -> [u8; 51429]
     [0; 51429]
 }
 
+fn number_of_flaw(flaw: Flaw) -> usize {
+    match flaw {
+        Flaw::EmptyPattern => 4,
+        Flaw::LongPattern => 5,
+        Flaw::ManyAlternatives => 6,
+        Flaw::NotDigits => 7,
+        Flaw::TooMany => 8,
+    }
+}
+
 fn number_of(fault: Fault) -> usize {
     match fault {
         Fault::NotRecognised => 3,
-        Fault::EmptyPattern => 4,
-        Fault::LongPattern => 5,
-        Fault::ManyAlternatives => 6,
-        Fault::NotDigits => 7,
-        Fault::TooMany => 8,
+        Fault::Flawed(flaw) => number_of_flaw(flaw),
     }
 }
 

@@ -2,10 +2,12 @@
 // four parts are counted from the item's first byte.
 ghost use Prim.Native.Nat.{_≤_};
 ghost use lib.ListN.{length};
+use book::Alternatives;
+use book::field::parse_branch;
 use libc::STDOUT_FILENO;
-use rule_text::Alternatives;
 use rule_text::Entry;
-use rule_text::field::parse_branch;
+use rule_text::Four;
+use rule_text::Span;
 use rule_text::item::item;
 use trial::say::labelled;
 use trial::say::newline;
@@ -35,14 +37,9 @@ fn form(at: usize, n: usize, name: &[u8]) {
     word(name);
 }
 
-fn span(start: usize, end: usize) {
-    labelled(b" ", start);
-    labelled(b"..", end);
-}
-
-fn spans(start: usize, end: usize, start2: usize, end2: usize) {
-    span(start, end);
-    span(start2, end2);
+fn span(s: Span) {
+    labelled(b" ", s.start);
+    labelled(b"..", s.end);
 }
 
 fn code_point(c: u32) {
@@ -50,8 +47,12 @@ fn code_point(c: u32) {
     io::print_hex(STDOUT_FILENO, c as u64, 4);
 }
 
-fn rule(at: usize, n: usize) {
-    form(at, n, b": rule");
+fn rule(at: usize, four: Four) {
+    form(at, four.next, b": rule");
+    span(four.pattern);
+    span(four.start);
+    span(four.vowel);
+    span(four.other);
 }
 
 fn folding(at: usize, n: usize, key: u32, target: u32) {
@@ -79,21 +80,9 @@ fn show_item(rest: &[u8], at: usize) -> usize
     ensures { λ r. ⌜ r ≤ length (now (rest .entry)) ⌝ }
 {
     match item(rest) {
-        Entry::Rule {
-            pattern,
-            pattern_end,
-            start,
-            start_end,
-            vowel,
-            vowel_end,
-            other,
-            other_end,
-            next,
-        } => {
-            rule(at, next);
-            spans(pattern, pattern_end, start, start_end);
-            spans(vowel, vowel_end, other, other_end);
-            next
+        Entry::Rule(four) => {
+            rule(at, four);
+            four.next
         }
         Entry::Folding { key, target, next } => {
             folding(at, next, key, target);
@@ -143,5 +132,5 @@ fn show_alternatives(found: Alternatives) {
 pub(crate) fn show_field(field: &[u8]) {
     word(b"field ");
     text_line(field);
-    show_alternatives(parse_branch(field));
+    show_alternatives(parse_branch(field, b'|'));
 }

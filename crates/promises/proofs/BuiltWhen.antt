@@ -15,11 +15,12 @@ use Rattle.laws.proofs.Members.{in-every}
 use Rattle.chars.specs.Utf8.{isText}
 use Rattle.rule_text.specs.Items.{Saying, Item, items}
 use Rattle.rule_text.specs.Items.Saying.{RuleItem, FoldingItem, LineEndItem, CommentItem, UnknownItem}
-use Rattle.rule_text.specs.Fields.{alternatives, fieldFault}
+use Rattle.rule_text.specs.Fields.{bar, alternatives}
 use Rattle.chars.specs.Digits.{isAlternative}
 use Rattle.plate.specs.Plate.{edition1}
 use Rattle.plate.specs.Written.{plateBytes}
-use Rattle.builder.specs.Build.{Book, blank, putFolding, foldingOf, enter, when, firstFault, fault, unless, verdict, Built, refusal, answered, delivered, nonzero, buildAnswer}
+use Rattle.book.specs.Book.{Book, blank, putFolding, foldingOf, when, firstFault, fieldFault}
+use Rattle.builder.specs.Build.{enter, fault, unless, verdict, Built, refusal, answered, delivered, nonzero, buildAnswer}
 use Rattle.promises.specs.Said.{sayings, saidBy, rulesOf, foldingsOf, putRules, putFoldings}
 use Rattle.promises.specs.When.{Check, NotClean, FieldNumber, keys, ItemNumber, ItemsNumber, BuildNumber}
 use Rattle.promises.proofs.Said.{Holds, enter-holds, as-many-rules, put-count, knows-keys, in-some, some-in}
@@ -33,7 +34,7 @@ row : (t : Bool) (k : ℕ) (w : Type 0) → (t ≡ true → w) → (t ≡ false 
 row true k w a a′ rest P below = inl (a refl, refl)
 row false k w a a′ rest P below = inr (a′ refl, below)
 
-field-row : (f : List ℕ) (rest : List ℕ) (P : ℕ → Type 0) → P (firstFault rest) → (let n = firstFault (fieldFault f ∷ rest) in FieldNumber f n (P n))
+field-row : (f : List ℕ) (rest : List ℕ) (P : ℕ → Type 0) → P (firstFault rest) → (let n = firstFault (fieldFault (alternatives f) ∷ rest) in FieldNumber f n (P n))
 field-row f rest P below =
     go (leb (length (alternatives f)) 8) (every isAlternative (alternatives f)) (λ e. leb-false (length (alternatives f)) 8 e)
     (λ e h. let k = leb-true (length (alternatives f)) 8 e in omega arith) (λ e. every-false isAlternative (alternatives f) e)
@@ -52,12 +53,13 @@ module _ (rules : ℕ) where
   Eight n = Check n 8 (512 ≤ rules) (n ≡ 0)
 
 rule-number : (p s v o : List ℕ) (before : List Saying) (n : ℕ) → n ≡ length (rulesOf before)
-    → ItemNumber before (RuleItem p s v o) (firstFault (when (eqb (length p) 0) 4 ∷ when (ltb 16 (length p)) 5 ∷ fieldFault s ∷ fieldFault v ∷ fieldFault o ∷ when (leb 512 n) 8 ∷ []))
+    → ItemNumber before (RuleItem p s v o) (firstFault (when (eqb (length p) 0) 4 ∷ when (ltb 16 (length p)) 5 ∷ fieldFault (alternatives s) ∷ fieldFault
+    (alternatives v) ∷ fieldFault (alternatives o) ∷ when (leb 512 n) 8 ∷ []))
 rule-number p s v o before n e =
     let last : List ℕ = when (leb 512 n) 8 ∷ [] in
-    let third : List ℕ = fieldFault o ∷ last in
-    let second : List ℕ = fieldFault v ∷ third in
-    let first : List ℕ = fieldFault s ∷ second in
+    let third : List ℕ = fieldFault (alternatives o) ∷ last in
+    let second : List ℕ = fieldFault (alternatives v) ∷ third in
+    let first : List ℕ = fieldFault (alternatives s) ∷ second in
     let End : ℕ → Type 0 = Eight (length (rulesOf before)) in
     let Third : ℕ → Type 0 = λ m. FieldNumber o m (End m) in
     let Second : ℕ → Type 0 = λ m. FieldNumber v m (Third m) in

@@ -76,7 +76,8 @@ named-number call rs cs lent false true true foreign broken w₁ w₂ w₁₁ w�
 name-number : (call : List Use → List ℕ → code.Coded) (p : Plate) (name lent : List ℕ) (full : Type 0)
     → Check (call (usesIn p name) lent .number) 12 full (call (usesIn p name) lent .number ≡ 0) → NameNumber name full (codedBy call p name lent .number)
 name-number call p name lent full last =
-    named-number call (p .rules) (prepared p name) lent (ltb 256 (length name)) (isText name) (every allowed (charsOf name)) (failPlace allowed name) (badPlace name) (256 < length name) (isText name ≡ false) (Strange name) full
+    named-number call (p .rules) (prepared p name) lent (ltb 256 (length name)) (isText name) (every allowed (charsOf name)) (failPlace allowed name)
+    (badPlace name) (256 < length name) (isText name ≡ false) (Strange name) full
     (λ e. ltb-true 256 (length name) e) (λ e h. let k = ltb-false 256 (length name) e in omega arith)
     (λ e. e) (λ e h. false≢true (sym h ∙ e))
     (λ e. strange (charsOf name) e) (λ e h. not-strange (charsOf name) e h)

@@ -18,7 +18,8 @@ use Rattle.rule_text.specs.Items.{Saying, Item, items}
 use Rattle.plate.specs.Plate.{Plate, edition1, goodPlate}
 use Rattle.plate.specs.Written.{plateBytes}
 use Rattle.plate.proofs.Packed.{Bytes}
-use Rattle.builder.specs.Build.{Book, blank, plateOf, enter, fault, Verdict, unless, verdict, Built, refusal, delivered, answered, nonzero, buildAnswer}
+use Rattle.book.specs.Book.{Book, blank, plateOf}
+use Rattle.builder.specs.Build.{enter, fault, Verdict, unless, verdict, Built, refusal, delivered, answered, nonzero, buildAnswer}
 use Rattle.builder.specs.Build.Verdict.{Faulty, Fine}
 use Rattle.builder.proofs.Goods.{build-good, build-accepted}
 use Rattle.branches.specs.Branches.{Use, start, run, code, codes}

@@ -17,7 +17,7 @@ use Rattle.plate.specs.Bits.{bitsOf}
 use Rattle.plate.specs.Plate.{Folding, Rule, Plate, edition1, mostFoldings, nonzeroByte, goodPattern, goodField, goodRule, goodFolding, goodFoldings, goodRules, goodPlate, rising, ordered}
 use Rattle.plate.specs.Written.{counted, digitBits, alternativeBits, fieldBits, ruleBits, foldingBits, flagBit, headBits, plateBits, plateBytes}
 use Rattle.plate.proofs.Packed.{length-bitsOf}
-use Rattle.builder.proofs.Inks.{pack-length}
+use Rattle.book.proofs.Inks.{pack-length}
 use Rattle.promises.specs.Demands.{Largest}
 
 -- ---- how many bits

@@ -14,7 +14,8 @@ use Rattle.plate.specs.Plate.{Rule, Plate, edition1}
 use Rattle.plate.specs.Written.{plateBytes}
 use Rattle.plate.specs.Read.{readPlate}
 use Rattle.plate.proofs.Packed.{Bytes}
-use Rattle.builder.specs.Build.{blank, plateOf, Verdict, verdict, Built, answered, nonzero, buildAnswer}
+use Rattle.book.specs.Book.{blank, plateOf}
+use Rattle.builder.specs.Build.{Verdict, verdict, Built, answered, nonzero, buildAnswer}
 use Rattle.builder.specs.Build.Verdict.{Faulty, Fine}
 use Rattle.branches.specs.Branches.{Use, start, over, codes}
 use Rattle.branches.specs.Choice.{firstOnly}

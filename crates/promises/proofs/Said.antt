@@ -15,8 +15,10 @@ use Rattle.laws.proofs.Lists.{some-append}
 use Rattle.rule_text.specs.Items.{Saying}
 use Rattle.rule_text.specs.Items.Saying.{RuleItem, FoldingItem, LineEndItem, CommentItem, UnknownItem}
 use Rattle.plate.specs.Plate.{Folding, Rule, rising}
-use Rattle.builder.specs.Build.{Book, putRule, putFolding, ruleOf, foldingOf, enter}
-use Rattle.builder.proofs.Sorted.{put-length, put-rising}
+use Rattle.rule_text.specs.Fields.{bar}
+use Rattle.book.specs.Book.{Book, putRule, putFolding, ruleOf, foldingOf}
+use Rattle.book.proofs.Sorted.{put-length, put-rising}
+use Rattle.builder.specs.Build.{enter}
 use Rattle.promises.specs.Said.{rulesOf, foldingsOf, putRules, putFoldings}
 use Rattle.promises.specs.When.{keys}
 
@@ -24,7 +26,7 @@ use Rattle.promises.specs.When.{keys}
 
 rules-behind : (before more : List Saying) → rulesOf (before ++ more) ≡ rulesOf before ++ rulesOf more
 rules-behind [] more = refl
-rules-behind (RuleItem p s v o ∷ is) more = ap (λ (l : List Rule). ruleOf p s v o ∷ l) (rules-behind is more)
+rules-behind (RuleItem p s v o ∷ is) more = ap (λ (l : List Rule). ruleOf bar p s v o ∷ l) (rules-behind is more)
 rules-behind (FoldingItem k t ∷ is) more = rules-behind is more
 rules-behind (LineEndItem ∷ is) more = rules-behind is more
 rules-behind (CommentItem ∷ is) more = rules-behind is more
@@ -59,7 +61,7 @@ foldings-next before i = ap (putFoldings []) (foldings-behind before (i ∷ []))
 
 pub enter-holds : (before : List Saying) (i : Saying) (b : Book) → Holds before b → Holds (before ++ (i ∷ [])) (enter i b)
 enter-holds before (RuleItem p s v o) b h = record {
-  rules = ap (putRule (ruleOf p s v o)) (h .rules) ∙ sym (rules-next before (RuleItem p s v o));
+  rules = ap (putRule (ruleOf bar p s v o)) (h .rules) ∙ sym (rules-next before (RuleItem p s v o));
   foldings = h .foldings ∙ sym (foldings-next before (RuleItem p s v o));
 }
 enter-holds before (FoldingItem k t) b h = record {

@@ -6,7 +6,7 @@ use mathlib.Core.List.{List, [], _∷_}
 use lib.Dec.{ltb, leb, eqb}
 use lib.ListN.{length}
 use Rattle.plate.specs.Plate.{Rule, firstCode, mayPrecede}
-use Rattle.builder.specs.Build.{putRule}
+use Rattle.book.specs.Book.{putRule}
 use Rattle.coder.specs.Wider.{WiderRule, WiderRules}
 use Rattle.promises.specs.Said.{saidBy, rulesOf, putRules, putFoldings, plateSaid}
 use Rattle.promises.specs.Demands.{WiderPlate, WiderText}

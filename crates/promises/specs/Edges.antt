@@ -6,11 +6,11 @@ use mathlib.Core.Bool.{true, false}
 use mathlib.Core.List.{List, [], _∷_, _++_, map}
 use lib.Dec.{T}
 use lib.ListN.{replicate}
-use Rattle.laws.specs.Lists.{splitAt}
+use Rattle.laws.specs.Lists.{splitAt, until, countOf}
 use Rattle.chars.specs.Utf8.{textFrom, charsFrom, soundFrom}
 use Rattle.chars.specs.Letters.{white, capital, evenCapital, oddCapital, lowerOf, vowel}
 use Rattle.chars.specs.Quoted.{bytes, lines}
-use Rattle.rule_text.specs.Forms.{entry, quadruplet, folding, multilineComment, endOfLine, ending, comment, blanks, until, count, later, pairAt, lineAt, part, plain, escaped, partAt, letterAt, closing}
+use Rattle.rule_text.specs.Forms.{entry, quadruplet, folding, multilineComment, endOfLine, ending, comment, blanks, later, pairAt, lineAt, part, plain, escaped, partAt, letterAt, closing}
 use Rattle.rule_text.specs.Items.{itemsFrom}
 use Rattle.plate.specs.Bits.{bit, numberAt}
 use Rattle.plate.specs.Plate.{Rule, Folding, edition1}
@@ -113,5 +113,7 @@ wrong =
     ∷ []
 
 pub edges : T (apart cases wrong)
-unfolding textFrom charsFrom soundFrom white capital evenCapital oddCapital lowerOf vowel entry quadruplet folding multilineComment endOfLine ending comment blanks until count later pairAt lineAt part plain escaped partAt letterAt closing itemsFrom splitAt bit numberAt buildAnswer verdict endsWith extend met step run over foldBy walk joined room listAnswer encodeAnswer
+unfolding textFrom charsFrom soundFrom white capital evenCapital oddCapital lowerOf vowel entry quadruplet folding multilineComment endOfLine ending comment
+    blanks until countOf later pairAt lineAt part plain escaped partAt letterAt closing itemsFrom splitAt bit numberAt buildAnswer verdict endsWith extend met
+    step run over foldBy walk joined room listAnswer encodeAnswer
 edges = tt

@@ -5,11 +5,11 @@ use mathlib.Core.Path.{refl}
 use mathlib.Core.Bool.{true}
 use mathlib.Core.List.{List, [], _∷_}
 use lib.Dec.{T}
-use Rattle.laws.specs.Lists.{splitAt}
+use Rattle.laws.specs.Lists.{splitAt, until, countOf}
 use Rattle.chars.specs.Utf8.{textFrom, charsFrom}
 use Rattle.chars.specs.Letters.{white, capital, evenCapital, oddCapital, lowerOf, vowel}
 use Rattle.chars.specs.Quoted.{bytes, lines}
-use Rattle.rule_text.specs.Forms.{entry, quadruplet, folding, multilineComment, endOfLine, ending, comment, blanks, until, count, later, pairAt, lineAt, part, plain, escaped, partAt, letterAt, closing}
+use Rattle.rule_text.specs.Forms.{entry, quadruplet, folding, multilineComment, endOfLine, ending, comment, blanks, later, pairAt, lineAt, part, plain, escaped, partAt, letterAt, closing}
 use Rattle.rule_text.specs.Items.{itemsFrom}
 use Rattle.plate.specs.Bits.{bit, numberAt}
 use Rattle.plate.specs.Read.{foldBy}
@@ -38,7 +38,7 @@ wide =
     )
 
 pub pair : WiderText narrow wide
-unfolding splitAt entry quadruplet folding multilineComment endOfLine ending comment blanks until count later pairAt lineAt part plain escaped partAt letterAt closing itemsFrom
+unfolding splitAt entry quadruplet folding multilineComment endOfLine ending comment blanks until countOf later pairAt lineAt part plain escaped partAt letterAt closing itemsFrom
 pair = (
   refl,
   (
@@ -60,5 +60,7 @@ abbrev wrong : List Case
 wrong = Codes narrow true (bytes "rcà") 447 (bytes "900000|930000|800000|830000") ∷ []
 
 pub pair-coded : T (apart cases wrong)
-unfolding textFrom charsFrom white capital evenCapital oddCapital lowerOf vowel entry quadruplet folding multilineComment endOfLine ending comment blanks until count later pairAt lineAt part plain escaped partAt letterAt closing itemsFrom splitAt bit numberAt buildAnswer verdict endsWith extend met step run over foldBy walk joined room listAnswer encodeAnswer
+unfolding textFrom charsFrom white capital evenCapital oddCapital lowerOf vowel entry quadruplet folding multilineComment endOfLine ending comment blanks until
+    countOf later pairAt lineAt part plain escaped partAt letterAt closing itemsFrom splitAt bit numberAt buildAnswer verdict endsWith extend met step run over
+    foldBy walk joined room listAnswer encodeAnswer
 pair-coded = tt

@@ -7,7 +7,8 @@ use Rattle.rule_text.specs.Items.{Saying, Item, items}
 use Rattle.rule_text.specs.Items.Saying.{RuleItem, FoldingItem, LineEndItem, CommentItem, UnknownItem}
 use Rattle.plate.specs.Plate.{Folding, Rule, Plate, edition1, goodPlate}
 use Rattle.plate.specs.Written.{plateBytes}
-use Rattle.builder.specs.Build.{putRule, putFolding, ruleOf, foldingOf}
+use Rattle.rule_text.specs.Fields.{bar}
+use Rattle.book.specs.Book.{putRule, putFolding, ruleOf, foldingOf}
 
 -- what items say, one by one
 abbrev pub sayings : List Item → List Saying
@@ -21,7 +22,7 @@ saidBy text = sayings (items text)
 -- the rules among them, in text order
 abbrev pub rulesOf : List Saying → List Rule
 rulesOf [] = []
-rulesOf (RuleItem p s v o ∷ more) = ruleOf p s v o ∷ rulesOf more
+rulesOf (RuleItem p s v o ∷ more) = ruleOf bar p s v o ∷ rulesOf more
 rulesOf (FoldingItem key target ∷ more) = rulesOf more
 rulesOf (LineEndItem ∷ more) = rulesOf more
 rulesOf (CommentItem ∷ more) = rulesOf more

@@ -2,6 +2,7 @@
 ghost use Prim.Native.Nat.{_≤_, _<_};
 ghost use lib.ListN.{length};
 use rule_text::Entry;
+use rule_text::Span;
 use rule_text::item::item;
 use rule_text::item::line_of;
 use std::num::wrapping_add_u64;
@@ -34,11 +35,11 @@ fn other(width: usize) -> Item {
     }
 }
 
-fn rule(from: usize, to: usize, width: usize) -> Item {
+fn rule(pattern: Span, width: usize) -> Item {
     Item {
         kind: RULE,
-        from: from,
-        to: to,
+        from: pattern.start,
+        to: pattern.end,
         key: 0,
         target: 0,
         width: width,
@@ -59,17 +60,7 @@ fn folding(key: u32, target: u32, width: usize) -> Item {
 // The first item of the rest of a text; one that is not recognised has no length.
 pub(crate) fn first_item(rest: &[u8]) -> Item {
     match item(rest) {
-        Entry::Rule {
-            pattern,
-            pattern_end,
-            start: _,
-            start_end: _,
-            vowel: _,
-            vowel_end: _,
-            other: _,
-            other_end: _,
-            next,
-        } => rule(pattern, pattern_end, next),
+        Entry::Rule(four) => rule(four.pattern, four.next),
         Entry::Folding { key, target, next } => folding(key, target, next),
         Entry::LineEnd { next } => other(next),
         Entry::Comment { next } => other(next),

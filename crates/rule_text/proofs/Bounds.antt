@@ -8,6 +8,7 @@ use native.Mathlib.Omega.{arith}
 use borrow.Author.Tests.{eqb-true, ltb-true}
 use lib.Dec.{eqb, ltb}
 use lib.ListN.{length, getD, drop}
+use Rattle.laws.specs.Lists.{until}
 use Rattle.laws.proofs.Lists.{rest}
 use Rattle.laws.proofs.Tests.{by-test, and-true}
 use Rattle.laws.proofs.Parts.{lent, within}
@@ -16,21 +17,24 @@ use Rattle.chars.specs.Answers.{Reaches}
 use Rattle.chars.specs.declared.Char.{Char}
 use Rattle.chars.specs.declared.Char.the-variants.{One, Bad, End}
 use Rattle.chars.proofs.Places.{reaches}
-use Rattle.rule_text.specs.Forms.{space, tab, newline, return, slash, star, quote, equals, backslash, until, pairAt, blanks, comment, ending, later, endOfLine, lineAt, plain, escaped, part, laterQuoted, partAt, onward, onwardQuoted, onwardLetter, quadruplet, letter, letterAt, folding, closing, multilineComment, orRule, orFolding, orLineEnd, orComment, entry}
+use Rattle.rule_text.specs.Forms.{space, tab, newline, return, slash, star, quote, equals, backslash, pairAt, blanks, comment, ending, later, endOfLine}
+use Rattle.rule_text.specs.Forms.{lineAt, plain, escaped, part, laterQuoted, partAt, onward, onwardQuoted, onwardLetter, quadruplet, letter, letterAt}
+use Rattle.rule_text.specs.Forms.{folding, closing, multilineComment, orRule, orFolding, orLineEnd, orComment, entry}
 use Rattle.rule_text.specs.Answers.{EndsLine, From, Closes, Holds, HoldsFour, Reads, Pairs, Comments, Lies}
+use Rattle.rule_text.specs.declared.Span.{Span}
 use Rattle.rule_text.specs.declared.Reach.{Reach}
 use Rattle.rule_text.specs.declared.Reach.the-variants as R
 use Rattle.rule_text.specs.declared.Quoted.{Quoted}
 use Rattle.rule_text.specs.declared.Quoted.the-variants as Q
-use Rattle.rule_text.specs.declared.Letter.{Letter}
-use Rattle.rule_text.specs.declared.Letter.the-variants as L
+use Rattle.rule_text.specs.declared.Symbol.{Symbol}
+use Rattle.rule_text.specs.declared.Symbol.the-variants as S
 use Rattle.rule_text.specs.declared.Parts.{Parts}
 use Rattle.rule_text.specs.declared.Parts.the-variants as P
 use Rattle.rule_text.specs.declared.Pair.{Pair}
 use Rattle.rule_text.specs.declared.Pair.the-variants as F
 use Rattle.rule_text.proofs.Counts.{pair-within}
 use Rattle.rule_text.proofs.Ends.{line-ends, at-from}
-use Rattle.rule_text.proofs.Quotes.{at-holds, four-holds}
+use Rattle.rule_text.proofs.Quotes.{span, at-holds, four-holds}
 use Rattle.rule_text.proofs.Folds.{letter-reads, folds-pairs}
 use Rattle.rule_text.proofs.Blocks.{closes, comments}
 
@@ -105,11 +109,11 @@ part-holds l =
     by-test (Holds 0 (length l)) (eqb (getD l 3 0) quote) _ _
     (λ w.
     let n = within l 3 quote (omega arith) (eqb-true (getD l 3 0) quote w) in
-    (omega arith, omega arith, omega arith, omega arith, omega arith)) (λ w. tt)) λ u.
+    record { after = omega arith; ordered = omega arith; closed = omega arith; within = omega arith; some = omega arith }) (λ w. tt)) λ u.
     by-test (Holds 0 (length l)) (ltb (1 + until quote (drop 1 l)) (length l)) _ _
     (λ w.
     let n = ltb-true (1 + until quote (drop 1 l)) (length l) w in
-    (omega arith, omega arith, omega arith, omega arith, omega arith)) (λ w. tt)) (λ t. tt)
+    record { after = omega arith; ordered = omega arith; closed = omega arith; within = omega arith; some = omega arith }) (λ w. tt)) (λ t. tt)
 
 part-at-holds : (l : List ℕ) (at : ℕ) → at ≤ length l → Holds at (length l) (partAt l at)
 unfolding partAt
@@ -125,15 +129,15 @@ part-at-holds l at h =
     go n i Q.No b = tt
 
 -- Going on behind a part, a letter or a line end keeps what is wanted of the form above.
-quoted : {A : Type 0} (W : A → Type 0) (r : Quoted) (none : A) (go : ℕ → ℕ → ℕ → A) (at n : ℕ) → Holds at n r → W none
-    → ((start end next : ℕ) → Holds at n (Q.Held start end next) → W (go start end next)) → W (onwardQuoted r none go)
+quoted : {A : Type 0} (W : A → Type 0) (r : Quoted) (none : A) (go : Span → ℕ → A) (at n : ℕ) → Holds at n r → W none
+    → ((start end next : ℕ) → Holds at n (Q.Held start end next) → W (go (span start end) next)) → W (onwardQuoted r none go)
 quoted W (Q.Held start end next) none go at n b w f = f start end next b
 quoted W Q.No none go at n b w f = w
 
-lettered : {A : Type 0} (W : A → Type 0) (r : Letter) (none : A) (go : ℕ → ℕ → A) (at n : ℕ) → Reads at n r → W none
-    → ((c next : ℕ) → Reads at n (L.Is c next) → W (go c next)) → W (onwardLetter r none go)
-lettered W (L.Is c next) none go at n b w f = f c next b
-lettered W L.No none go at n b w f = w
+lettered : {A : Type 0} (W : A → Type 0) (r : Symbol) (none : A) (go : ℕ → ℕ → A) (at n : ℕ) → Reads at n r → W none
+    → ((c next : ℕ) → Reads at n (S.Is c next) → W (go c next)) → W (onwardLetter r none go)
+lettered W (S.Is c next) none go at n b w f = f c next b
+lettered W S.No none go at n b w f = w
 
 lined : {A : Type 0} (W : A → Type 0) (r : Reach) (none : A) (go : ℕ → A) (X : Reach → Type 0) → X r → W none
     → ((next : ℕ) → X (R.To next) → W (go next)) → W (onward r none go)
@@ -144,10 +148,10 @@ holds-four : (l : List ℕ) → HoldsFour (length l) (quadruplet l)
 unfolding quadruplet
 holds-four l =
     quoted (HoldsFour (length l)) (part l) P.No _ 0 (length l) (part-holds l) tt λ p p′ a x.
-    quoted (HoldsFour (length l)) (partAt l a) P.No _ a (length l) (part-at-holds l a (x .3)) tt λ s s′ b y.
-    quoted (HoldsFour (length l)) (partAt l b) P.No _ b (length l) (part-at-holds l b (y .3)) tt λ v v′ c z.
-    quoted (HoldsFour (length l)) (partAt l c) P.No _ c (length l) (part-at-holds l c (z .3)) tt λ o o′ d w.
-    lined (HoldsFour (length l)) (lineAt l d) P.No _ (From d (length l)) (from-line l d (w .3)) tt (λ next e. four-holds x y z w e)
+    quoted (HoldsFour (length l)) (partAt l a) P.No _ a (length l) (part-at-holds l a (x .within)) tt λ s s′ b y.
+    quoted (HoldsFour (length l)) (partAt l b) P.No _ b (length l) (part-at-holds l b (y .within)) tt λ v v′ c z.
+    quoted (HoldsFour (length l)) (partAt l c) P.No _ c (length l) (part-at-holds l c (z .within)) tt λ o o′ d w.
+    lined (HoldsFour (length l)) (lineAt l d) P.No _ (From d (length l)) (from-line l d (w .within)) tt (λ next e. four-holds x y z w e)
 
 -- ---- a folding
 
@@ -167,7 +171,7 @@ folding-pairs l =
     by-test (Pairs (length l)) (eqb (getD l m 0) equals) _ _ (λ t.
     let i : m + 1 ≤ length l = let w = within l m equals (omega arith) (eqb-true (getD l m 0) equals t) in omega arith in
     lettered (Pairs (length l)) (letterAt l (m + 1)) F.No _ (m + 1) (length l) (letter-at-reads l (m + 1) i) tt λ target k y.
-    lined (Pairs (length l)) (lineAt l k) F.No _ (From k (length l)) (from-line l k (y .1)) tt (λ next e. folds-pairs x y e)) (λ t. tt)
+    lined (Pairs (length l)) (lineAt l k) F.No _ (From k (length l)) (from-line l k (y .within)) tt (λ next e. folds-pairs x y e)) (λ t. tt)
 
 -- ---- a block comment
 
@@ -211,5 +215,5 @@ lies l = rule (quadruplet l) (holds-four l)
     pair F.No h = line-end (endOfLine l) (ends-line l)
 
     rule : (p : Parts) → HoldsFour (length l) p → Lies (length l) (orRule p (orFolding (folding l) (orLineEnd (endOfLine l) (orComment (multilineComment l)))))
-    rule (P.Four p p′ s s′ v v′ o o′ next) h = h
+    rule (P.Four four) h = h
     rule P.No h = pair (folding l) (folding-pairs l)

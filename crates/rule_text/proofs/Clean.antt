@@ -12,7 +12,7 @@ use borrow.Author.Tests.{eqb-true, ltb-true}
 use lib.Dec.{eqb, ltb, lit<}
 use lib.ListN.{length, getD, take, drop, length-drop, take-append-drop, List·getD-eq-default}
 use lib.Seq.{drop-drop, split-at}
-use Rattle.laws.specs.Lists.{every, cut}
+use Rattle.laws.specs.Lists.{every, cut, until}
 use Rattle.laws.proofs.Tests.{and-true, by-test}
 use Rattle.laws.proofs.Bits.{by-order}
 use Rattle.laws.proofs.Cuts.{every-drop, every-cut}
@@ -28,7 +28,6 @@ use Rattle.rule_text.specs.Forms.{
   equals,
   slash,
   star,
-  until,
   pairAt,
   onward,
   onwardQuoted,
@@ -43,6 +42,7 @@ use Rattle.rule_text.specs.Forms.{
   escaped,
   part,
   partAt,
+  inside,
   quadruplet,
   letter,
   letterAt,
@@ -57,18 +57,20 @@ use Rattle.rule_text.specs.Forms.{
 }
 use Rattle.rule_text.specs.Items.{Saying, Item, taken, itemOf, followed, itemsFrom, items}
 use Rattle.rule_text.specs.Items.Saying.{RuleItem, FoldingItem, LineEndItem, CommentItem, UnknownItem}
+use Rattle.rule_text.specs.declared.Span.{Span}
 use Rattle.rule_text.specs.declared.Reach.{Reach}
 use Rattle.rule_text.specs.declared.Reach.the-variants as R
 use Rattle.rule_text.specs.declared.Quoted.{Quoted}
 use Rattle.rule_text.specs.declared.Quoted.the-variants as Q
-use Rattle.rule_text.specs.declared.Letter.{Letter}
-use Rattle.rule_text.specs.declared.Letter.the-variants as L
+use Rattle.rule_text.specs.declared.Symbol.{Symbol}
+use Rattle.rule_text.specs.declared.Symbol.the-variants as S
 use Rattle.rule_text.specs.declared.Parts.{Parts}
 use Rattle.rule_text.specs.declared.Parts.the-variants as P
 use Rattle.rule_text.specs.declared.Pair.{Pair}
 use Rattle.rule_text.specs.declared.Pair.the-variants as F
 use Rattle.rule_text.specs.declared.Entry.{Entry}
 use Rattle.rule_text.specs.declared.Entry.the-variants as E
+use Rattle.rule_text.proofs.Quotes.{span}
 
 -- ---- where an item ends
 
@@ -130,13 +132,13 @@ module _ {A : Type 0} (K : A → Type 0) (none : A) where
   onward-keeps (R.To n) go h f = f n refl
   onward-keeps R.No go h f = h
 
-  quoted-keeps : (r : Quoted) (go : ℕ → ℕ → ℕ → A) → K none → ((s e n : ℕ) → r ≡ Q.Held s e n → K (go s e n)) → K (onwardQuoted r none go)
+  quoted-keeps : (r : Quoted) (go : Span → ℕ → A) → K none → ((s e n : ℕ) → r ≡ Q.Held s e n → K (go (span s e) n)) → K (onwardQuoted r none go)
   quoted-keeps (Q.Held s e n) go h f = f s e n refl
   quoted-keeps Q.No go h f = h
 
-  letter-keeps : (r : Letter) (go : ℕ → ℕ → A) → K none → ((c n : ℕ) → r ≡ L.Is c n → K (go c n)) → K (onwardLetter r none go)
-  letter-keeps (L.Is c n) go h f = f c n refl
-  letter-keeps L.No go h f = h
+  letter-keeps : (r : Symbol) (go : ℕ → ℕ → A) → K none → ((c n : ℕ) → r ≡ S.Is c n → K (go c n)) → K (onwardLetter r none go)
+  letter-keeps (S.Is c n) go h f = f c n refl
+  letter-keeps S.No go h f = h
 
 -- ---- a pattern is a text
 
@@ -207,23 +209,23 @@ module _ (t : ℕ → Bool) where
 
   -- What an entry of l says is clean, and it stops.
   abbrev Sound : List ℕ → Entry → Type 0
-  Sound l (E.Rule p p′ s s′ v v′ o o′ next) = Clean (RuleItem (cut l p p′) [] [] []) × Stop l next
+  Sound l (E.Rule four) = Clean (RuleItem (inside l (four .pattern)) [] [] []) × Stop l (four .next)
   Sound l (E.Folding key target next) = Clean (FoldingItem key target) × Stop l next
   Sound l (E.LineEnd next) = Stop l next
   Sound l (E.Comment next) = Stop l next
   Sound l E.Unknown = Unit {0}
 
   abbrev SoundRule : List ℕ → Parts → Type 0
-  SoundRule l (P.Four p p′ s s′ v v′ o o′ next) = Clean (RuleItem (cut l p p′) [] [] []) × Stop l next
+  SoundRule l (P.Four four) = Clean (RuleItem (inside l (four .pattern)) [] [] []) × Stop l (four .next)
   SoundRule l P.No = Unit {0}
 
   abbrev SoundFolding : List ℕ → Pair → Type 0
   SoundFolding l (F.Folds key target next) = Clean (FoldingItem key target) × Stop l next
   SoundFolding l F.No = Unit {0}
 
-  abbrev SoundLetter : Letter → Type 0
-  SoundLetter (L.Is c n) = (scalar c ≡ true) × (0 < c)
-  SoundLetter L.No = Unit {0}
+  abbrev SoundLetter : Symbol → Type 0
+  SoundLetter (S.Is c n) = (scalar c ≡ true) × (0 < c)
+  SoundLetter S.No = Unit {0}
 
   module _ (z : t 0 ≡ false) (l : List ℕ) (h : isText l ≡ true) (passes : every t l ≡ true) where
     rule-sound : SoundRule l (quadruplet l)
@@ -269,7 +271,7 @@ module _ (t : ℕ → Bool) where
     entry-sound = rule (quadruplet l) _ rule-sound (pair (folding l) _ folding-sound (line (endOfLine l) _ (end-of-line l) (block (multilineComment l) comment-sound)))
       where
         rule : (r : Parts) (e : Entry) → SoundRule l r → Sound l e → Sound l (orRule r e)
-        rule (P.Four p p′ s s′ v v′ o o′ next) e a b = a
+        rule (P.Four four) e a b = a
         rule P.No e a b = b
 
         pair : (r : Pair) (e : Entry) → SoundFolding l r → Sound l e → Sound l (orFolding r e)
@@ -295,7 +297,7 @@ module _ (t : ℕ → Bool) where
       on (suc n) s = rw sub-one (below n (stop-text (x ∷ xs) (suc n) h s))
 
       go : (e : Entry) → Sound (x ∷ xs) e → AllClean (itemOf place (x ∷ xs) e ∷ followed e (itemsFrom (suc place) (taken (x ∷ xs) e - 1) xs))
-      go (E.Rule p p′ s s′ v v′ o o′ next) a = (a .0, on next (a .1))
+      go (E.Rule four) a = (a .0, on (four .next) (a .1))
       go (E.Folding key target next) a = (a .0, on next (a .1))
       go (E.LineEnd next) a = (tt, on next a)
       go (E.Comment next) a = (tt, on next a)

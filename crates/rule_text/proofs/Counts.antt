@@ -1,4 +1,4 @@
--- The counts over bytes, from a place on: the end, a byte that stops the count, and one that it passes. Assumes nothing.
+-- The blanks from a place on, and two bytes one behind the other. Assumes nothing.
 use mathlib.Core.Path.{_≡_, sym}
 use mathlib.Core.Bool.{true, false, _||_}
 use mathlib.Core.List.{List}
@@ -11,38 +11,14 @@ use lib.ListN.{length, getD, drop, drop-of-length-le}
 use lib.Seq.{drop-cons}
 use Rattle.laws.proofs.Tests.{and-true}
 use Rattle.laws.proofs.Parts.{within}
-use Rattle.rule_text.specs.Forms.{space, tab, blanks, until, count, pairAt}
+use Rattle.rule_text.specs.Forms.{space, tab, blanks, pairAt}
 
 module _ (l : List ℕ) (i : ℕ) where
-  pub until-end : (b : ℕ) → length l ≤ i → until b (drop i l) ≡ 0
-  unfolding until
-  until-end b h = rw (drop-of-length-le l h)
-
   pub blanks-end : length l ≤ i → blanks (drop i l) ≡ 0
   unfolding blanks
   blanks-end h = rw (drop-of-length-le l h)
 
-  pub count-end : (b : ℕ) → length l ≤ i → count b (drop i l) ≡ 0
-  unfolding count
-  count-end b h = rw (drop-of-length-le l h)
-
   module _ (h : i < length l) where
-    pub until-hit : (b : ℕ) → getD l i 0 ≡ b → until b (drop i l) ≡ 0
-    unfolding until
-    until-hit b e = rw (drop-cons l i 0, eq-eqb _ _ e)
-
-    pub until-step : (b : ℕ) → (getD l i 0 ≡ b → ⊥) → until b (drop i l) ≡ suc (until b (drop (i + 1) l))
-    unfolding until
-    until-step b e = rw (drop-cons l i 0, ne-eqb _ _ e, add-one)
-
-    pub count-hit : (b : ℕ) → getD l i 0 ≡ b → count b (drop i l) ≡ suc (count b (drop (i + 1) l))
-    unfolding count
-    count-hit b e = rw (drop-cons l i 0, eq-eqb _ _ e, add-one)
-
-    pub count-step : (b : ℕ) → (getD l i 0 ≡ b → ⊥) → count b (drop i l) ≡ count b (drop (i + 1) l)
-    unfolding count
-    count-step b e = rw (drop-cons l i 0, ne-eqb _ _ e, add-one)
-
     pub blanks-stop : (eqb (getD l i 0) space || eqb (getD l i 0) tab) ≡ false → blanks (drop i l) ≡ 0
     unfolding blanks
     blanks-stop e = rw (drop-cons l i 0, e)

@@ -42,7 +42,7 @@ module _ (text : List ℕ) where
   -- The item at a place, with what is joined behind it.
   one : (at : ℕ) (l : List ℕ) (e : Entry) (more : List Item) → 0 < taken l e → at + taken l e ≤ length text → Behind (at + taken l e) more
       → Behind at (itemOf at l e ∷ followed e more)
-  one at l (E.Rule p p′ s s′ v v′ o o′ next) more h w b = ((b .0 .0, b .0 .1, (refl, h, b .0 .2)), λ k. (refl, h, b .1 (k .1)))
+  one at l (E.Rule four) more h w b = ((b .0 .0, b .0 .1, (refl, h, b .0 .2)), λ k. (refl, h, b .1 (k .1)))
   one at l (E.Folding key target next) more h w b = ((b .0 .0, b .0 .1, (refl, h, b .0 .2)), λ k. (refl, h, b .1 (k .1)))
   one at l (E.LineEnd next) more h w b = ((b .0 .0, b .0 .1, (refl, h, b .0 .2)), λ k. (refl, h, b .1 (k .1)))
   one at l (E.Comment next) more h w b = ((b .0 .0, b .0 .1, (refl, h, b .0 .2)), λ k. (refl, h, b .1 (k .1)))

@@ -8,7 +8,8 @@ use borrow.Author.Tests.{eq-eqb, ne-eqb}
 use lib.ListN.{length, getD, drop}
 use Rattle.laws.proofs.Lists.{rest}
 use Rattle.laws.proofs.Parts.{lent, lent-length, by-lt}
-use Rattle.rule_text.specs.Forms.{newline, return, slash, until, pairAt, blanks, comment, ending, later, endOfLine, lineAt}
+use Rattle.laws.specs.Lists.{until}
+use Rattle.rule_text.specs.Forms.{newline, return, slash, pairAt, blanks, comment, ending, later, endOfLine, lineAt}
 use Rattle.rule_text.specs.Answers.{EndsLine, From}
 use Rattle.rule_text.specs.declared.Reach.{Reach}
 use Rattle.rule_text.specs.declared.Reach.the-variants.{To, No}

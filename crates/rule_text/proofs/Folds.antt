@@ -12,7 +12,7 @@ use Rattle.chars.specs.declared.Char.the-variants.{One}
 use Rattle.rule_text.specs.Forms.{equals, lineAt, letter, letterAt, folding}
 use Rattle.rule_text.specs.Answers.{From, Reads, Pairs}
 use Rattle.rule_text.specs.declared.Reach.the-variants as R
-use Rattle.rule_text.specs.declared.Letter.the-variants as L
+use Rattle.rule_text.specs.declared.Symbol.the-variants as S
 use Rattle.rule_text.specs.declared.Pair.the-variants.{Folds, No}
 
 module _ (l : List ℕ) where
@@ -21,21 +21,21 @@ module _ (l : List ℕ) where
   unfolding letterAt
   letter-is at r x e f = ap (letter at) (sym f ∙ e)
 
-  pub none-1 : letterAt l 0 ≡ L.No → folding l ≡ No
+  pub none-1 : letterAt l 0 ≡ S.No → folding l ≡ No
   unfolding folding
   none-1 e = rw e
 
-  module _ {key n : ℕ} (e1 : letterAt l 0 ≡ L.Is key n) where
+  module _ {key n : ℕ} (e1 : letterAt l 0 ≡ S.Is key n) where
     pub none-2 : (getD l n 0 ≡ equals → ⊥) → folding l ≡ No
     unfolding folding
     none-2 e = rw (e1, ne-eqb _ _ e)
 
     module _ (q : getD l n 0 ≡ equals) where
-      pub none-3 : letterAt l (n + 1) ≡ L.No → folding l ≡ No
+      pub none-3 : letterAt l (n + 1) ≡ S.No → folding l ≡ No
       unfolding folding
       none-3 e = rw (e1, eq-eqb _ _ q, e)
 
-      module _ {target m : ℕ} (e2 : letterAt l (n + 1) ≡ L.Is target m) where
+      module _ {target m : ℕ} (e2 : letterAt l (n + 1) ≡ S.Is target m) where
         pub none-4 : lineAt l m ≡ R.No → folding l ≡ No
         unfolding folding
         none-4 e = rw (e1, eq-eqb _ _ q, e2, e)
@@ -44,11 +44,10 @@ module _ (l : List ℕ) where
         unfolding folding
         folds e = rw (e1, eq-eqb _ _ q, e2, e)
 
-pub letter-reads : (at n c w : ℕ) → Reaches at n (One c w) → Reads at n (L.Is c (at + w))
-letter-reads at n c w r =
-    let a = r .0 in (omega arith, r .2, r .3, r .4)
+pub letter-reads : (at n c w : ℕ) → Reaches at n (One c w) → Reads at n (S.Is c (at + w))
+letter-reads at n c w r = let a = r .0 in record { some = omega arith; within = r .2; small = r .3; is = r .4 }
 
-pub folds-pairs : {n key m target k next : ℕ} → Reads 0 n (L.Is key m) → Reads (m + 1) n (L.Is target k) → From k n (R.To next) → Pairs n (Folds key target next)
+pub folds-pairs : {n key m target k next : ℕ} → Reads 0 n (S.Is key m) → Reads (m + 1) n (S.Is target k) → From k n (R.To next) → Pairs n (Folds key target next)
 folds-pairs x y e =
-    let y0 = y .0 in
-    let e0 = e .0 in (e .1, omega arith, x .2, x .3, y .2, y .3)
+    let y0 = y .some in
+    let e0 = e .0 in record { within = e .1; some = omega arith; keySmall = x .small; keyIs = x .is; targetSmall = y .small; targetIs = y .is }

@@ -4,7 +4,6 @@ pub mod Quotes
 pub mod Folds
 pub mod Blocks
 pub mod Entries
-pub mod Splits
 pub mod Bounds
 pub mod Walk
 pub mod Covers

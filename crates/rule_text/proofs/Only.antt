@@ -4,14 +4,14 @@ use mathlib.Core.List.{List}
 use Prim.Native.Nat.{ℕ}
 use lib.ListN.{length}
 use Rattle.laws.proofs.Only.{only}
-use Rattle.rule_text.specs.Forms.{endOfLine, quadruplet, folding, multilineComment, entry}
+use Rattle.rule_text.specs.Forms.{endOfLine, inside, quadruplet, folding, multilineComment, entry}
 use Rattle.rule_text.specs.Items.{lineOf}
-use Rattle.rule_text.specs.Answers.{EndsLine, HoldsFour, Pairs, Comments, Lies, parsed, Says, barBehind, Ends}
+use Rattle.rule_text.specs.Answers.{EndsLine, HoldsFour, Pairs, Comments, Lies}
+use Rattle.rule_text.specs.declared.Span.{Span}
 use Rattle.rule_text.specs.declared.Reach.{Reach}
 use Rattle.rule_text.specs.declared.Parts.{Parts}
 use Rattle.rule_text.specs.declared.Pair.{Pair}
 use Rattle.rule_text.specs.declared.Entry.{Entry}
-use Rattle.rule_text.specs.declared.Alternatives.{Alternatives}
 
 module _ (l : List ℕ) where
   pub only-end-of-line : (r r′ : Reach) → (r ≡ endOfLine l) × EndsLine (length l) r → (r′ ≡ endOfLine l) × EndsLine (length l) r′ → r ≡ r′
@@ -32,8 +32,5 @@ module _ (l : List ℕ) where
   pub only-line-of : (at r r′ : ℕ) → r ≡ lineOf l at → r′ ≡ lineOf l at → r ≡ r′
   only-line-of at r r′ e f = only e f
 
-  pub only-parse-branch : (r r′ : Alternatives) → (r ≡ parsed l) × Says l r → (r′ ≡ parsed l) × Says l r′ → r ≡ r′
-  only-parse-branch r r′ e f = only (e .0) (f .0)
-
-  pub only-alternative-end : (at r r′ : ℕ) → (r ≡ barBehind l at) × Ends at (length l) r → (r′ ≡ barBehind l at) × Ends at (length l) r′ → r ≡ r′
-  only-alternative-end at r r′ e f = only (e .0) (f .0)
+  pub only-bytes-in : (s : Span) (r r′ : List ℕ) → r ≡ inside l s → r′ ≡ inside l s → r ≡ r′
+  only-bytes-in s r r′ e f = only e f

@@ -6,14 +6,19 @@ use Prim.Native.Nat.{ℕ, _+_, _-_, _<_, _≤_}
 use native.Mathlib.Omega.{arith}
 use borrow.Author.Tests.{eq-eqb, ne-eqb, lt-ltb, le-ltb}
 use lib.ListN.{length, getD, drop}
+use Rattle.laws.specs.Lists.{until}
 use Rattle.laws.proofs.Lists.{rest}
 use Rattle.laws.proofs.Parts.{lent, lent-length}
-use Rattle.rule_text.specs.Forms.{quote, backslash, until, pairAt, blanks, lineAt, plain, escaped, part, laterQuoted, partAt, quadruplet}
-use Rattle.rule_text.specs.Answers.{From, Holds, HoldsFour}
+use Rattle.rule_text.specs.Forms.{quote, backslash, pairAt, blanks, lineAt, plain, escaped, part, laterQuoted, partAt, quadruplet}
+use Rattle.rule_text.specs.Answers.{From, Holds, FourIn}
+use Rattle.rule_text.specs.declared.Span.{Span}
 use Rattle.rule_text.specs.declared.Reach.the-variants as R
 use Rattle.rule_text.specs.declared.Quoted.{Quoted}
 use Rattle.rule_text.specs.declared.Quoted.the-variants.{Held, No}
 use Rattle.rule_text.specs.declared.Parts.the-variants as P
+
+abbrev pub span : ℕ → ℕ → Span
+span start end = record { start = start; end = end }
 
 module _ (l : List ℕ) where
   pub escaped-held : getD l 3 0 ≡ quote → escaped l ≡ Held 1 3 4
@@ -75,10 +80,10 @@ module _ (l : List ℕ) where
   at-holds at n start end next h i r =
       let x = lent-length at l in
       let y = lent-length (at + n) l in
-      let a = r .1 in
-      let b = r .2 in
-      let c = r .3 in
-      let d = r .4 in (omega arith, omega arith, omega arith, omega arith, omega arith)
+      let a = r .ordered in
+      let b = r .closed in
+      let c = r .within in
+      let d = r .some in record { after = omega arith; ordered = omega arith; closed = omega arith; within = omega arith; some = omega arith }
 
   -- ---- four parts and a line end
 
@@ -106,20 +111,28 @@ module _ (l : List ℕ) where
           unfolding quadruplet
           none-5 e = rw (e1, e2, e3, e4, e)
 
-          pub four : {next : ℕ} → lineAt l d ≡ R.To next → quadruplet l ≡ P.Four p p′ s s′ v v′ o o′ next
+          pub four : {next : ℕ} → lineAt l d ≡ R.To next
+              → quadruplet l ≡ P.Four (record { pattern = span p p′; start = span s s′; vowel = span v v′; other = span o o′; next = next })
           unfolding quadruplet
           four e = rw (e1, e2, e3, e4, e)
 
 -- Each part lies behind the one before, and the line end behind them all.
 pub four-holds : {n p p′ a s s′ b v v′ c o o′ d next : ℕ} → Holds 0 n (Held p p′ a) → Holds a n (Held s s′ b) → Holds b n (Held v v′ c) → Holds c n (Held o o′ d)
-    → From d n (R.To next) → HoldsFour n (P.Four p p′ s s′ v v′ o o′ next)
+    → From d n (R.To next) → FourIn n (record { pattern = span p p′; start = span s s′; vowel = span v v′; other = span o o′; next = next })
 four-holds x y z w e =
-    let x2 = x .2 in
-    let y2 = y .2 in
-    let y4 = y .4 in
-    let z2 = z .2 in
-    let z4 = z .4 in
-    let w2 = w .2 in
-    let w4 = w .4 in
+    let x2 = x .closed in
+    let y2 = y .closed in
+    let y4 = y .some in
+    let z2 = z .closed in
+    let z4 = z .some in
+    let w2 = w .closed in
+    let w4 = w .some in
     let e0 = e .0 in
-    (x .1, omega arith, y .1, omega arith, z .1, omega arith, w .1, omega arith, e .1, omega arith)
+    record {
+      pattern = (x .ordered, omega arith);
+      start = (y .ordered, omega arith);
+      vowel = (z .ordered, omega arith);
+      other = (w .ordered, omega arith);
+      within = e .1;
+      some = omega arith;
+    }

@@ -44,8 +44,8 @@ pub takes : (l : List ℕ) (e : Entry) → entry l ≡ e → 0 < length l → (0
 takes l e f h = go e (subst (Lies (length l)) f (lies l))
   where
     go : (e : Entry) → Lies (length l) e → (0 < taken l e) × (taken l e ≤ length l)
-    go (E.Rule p p′ s s′ v v′ o o′ next) b = (b .9, b .8)
-    go (E.Folding key target next) b = (b .1, b .0)
+    go (E.Rule four) b = (b .some, b .within)
+    go (E.Folding key target next) b = (b .some, b .within)
     go (E.LineEnd next) b = (b .1 h, b .0)
     go (E.Comment next) b =
         let x = b .0 in (omega arith, b .1)
@@ -64,7 +64,7 @@ unroll place (x ∷ xs) e f h =
         rw sub-one (skip (suc place) k xs ∙ ap (λ (at : ℕ). itemsFrom at 0 (drop k xs)) {x = suc place + k} {y = place + suc k} (omega arith))
 
 abbrev pub Recognised : Entry → Type 0
-Recognised (E.Rule p p′ s s′ v v′ o o′ next) = Unit
+Recognised (E.Rule four) = Unit
 Recognised (E.Folding key target next) = Unit
 Recognised (E.LineEnd next) = Unit
 Recognised (E.Comment next) = Unit
@@ -72,7 +72,7 @@ Recognised E.Unknown = ⊥
 
 -- Behind an item that is recognised the reading goes on.
 goes-on : (e : Entry) → Recognised e → (more : List Item) → followed e more ≡ more
-goes-on (E.Rule p p′ s s′ v v′ o o′ next) k more = refl
+goes-on (E.Rule four) k more = refl
 goes-on (E.Folding key target next) k more = refl
 goes-on (E.LineEnd next) k more = refl
 goes-on (E.Comment next) k more = refl

@@ -6,6 +6,7 @@ use mathlib.Core.Bool.{Bool, cond, _&&_, _||_}
 use mathlib.Core.List.{List, [], _∷_}
 use lib.Dec.{ltb, eqb}
 use lib.ListN.{length, getD, drop}
+use Rattle.laws.specs.Lists.{cut, until}
 use Rattle.chars.specs.Utf8.{charOf}
 use Rattle.chars.specs.declared.Char.{Char}
 use Rattle.chars.specs.declared.Char.the-variants.{One, Bad, End}
@@ -13,8 +14,9 @@ use Rattle.rule_text.specs.declared.Reach.{Reach}
 use Rattle.rule_text.specs.declared.Reach.the-variants as R
 use Rattle.rule_text.specs.declared.Quoted.{Quoted}
 use Rattle.rule_text.specs.declared.Quoted.the-variants as Q
-use Rattle.rule_text.specs.declared.Letter.{Letter}
-use Rattle.rule_text.specs.declared.Letter.the-variants as L
+use Rattle.rule_text.specs.declared.Symbol.{Symbol}
+use Rattle.rule_text.specs.declared.Symbol.the-variants as S
+use Rattle.rule_text.specs.declared.Span.{Span}
 use Rattle.rule_text.specs.declared.Parts.{Parts}
 use Rattle.rule_text.specs.declared.Parts.the-variants as P
 use Rattle.rule_text.specs.declared.Pair.{Pair}
@@ -51,16 +53,6 @@ equals = 61
 abbrev pub backslash : ℕ
 backslash = 92
 
--- how many bytes stand before the first b; all of them where there is none
-unfoldable pub until : ℕ → List ℕ → ℕ
-until b [] = 0
-until b (x ∷ xs) = cond (eqb x b) 0 (suc (until b xs))
-
--- how many bytes are b
-unfoldable pub count : ℕ → List ℕ → ℕ
-count b [] = 0
-count b (x ∷ xs) = cond (eqb x b) (suc (count b xs)) (count b xs)
-
 -- the bytes a and b stand at a place, one behind the other
 unfoldable pub pairAt : List ℕ → ℕ → ℕ → ℕ → Bool
 pairAt l at a b = eqb (getD l at 0) a && eqb (getD l (at + 1) 0) b
@@ -71,13 +63,13 @@ abbrev pub onward : {A : Type 0} → Reach → A → (ℕ → A) → A
 onward (R.To next) none go = go next
 onward R.No none go = none
 
-abbrev pub onwardQuoted : {A : Type 0} → Quoted → A → (ℕ → ℕ → ℕ → A) → A
-onwardQuoted (Q.Held start end next) none go = go start end next
+abbrev pub onwardQuoted : {A : Type 0} → Quoted → A → (Span → ℕ → A) → A
+onwardQuoted (Q.Held start end next) none go = go (record { start = start; end = end }) next
 onwardQuoted Q.No none go = none
 
-abbrev pub onwardLetter : {A : Type 0} → Letter → A → (ℕ → ℕ → A) → A
-onwardLetter (L.Is c next) none go = go c next
-onwardLetter L.No none go = none
+abbrev pub onwardLetter : {A : Type 0} → Symbol → A → (ℕ → ℕ → A) → A
+onwardLetter (S.Is c next) none go = go c next
+onwardLetter S.No none go = none
 
 -- a form that was read from a place on: its places are moved by it
 unfoldable pub later : ℕ → Reach → Reach
@@ -133,17 +125,22 @@ partAt l at = let n = blanks (drop at l) in cond (eqb n 0) Q.No (laterQuoted (at
 
 unfoldable pub quadruplet : List ℕ → Parts
 quadruplet l =
-    onwardQuoted (part l) P.No (λ p p′ next. onwardQuoted (partAt l next) P.No (λ s s′ next. onwardQuoted (partAt l next) P.No (λ v v′ next.
-    onwardQuoted (partAt l next) P.No (λ o o′ next. onward (lineAt l next) P.No (λ next. P.Four p p′ s s′ v v′ o o′ next)))))
+    onwardQuoted (part l) P.No (λ pattern next. onwardQuoted (partAt l next) P.No (λ start next. onwardQuoted (partAt l next) P.No (λ vowel next.
+    onwardQuoted (partAt l next) P.No (λ other next.
+    onward (lineAt l next) P.No (λ next. P.Four (record { pattern = pattern; start = start; vowel = vowel; other = other; next = next }))))))
+
+-- the bytes of a span
+abbrev pub inside : List ℕ → Span → List ℕ
+inside l s = cut l (s .start) (s .end)
 
 -- ---- 2. "Folding: any character, `=`, any character, line end. Newline counts as a character here."
 
-abbrev pub letter : ℕ → Char → Letter
-letter at (One c w) = L.Is c (at + w)
-letter at Bad = L.No
-letter at End = L.No
+abbrev pub letter : ℕ → Char → Symbol
+letter at (One c w) = S.Is c (at + w)
+letter at Bad = S.No
+letter at End = S.No
 
-unfoldable pub letterAt : List ℕ → ℕ → Letter
+unfoldable pub letterAt : List ℕ → ℕ → Symbol
 letterAt l at = letter at (charOf (drop at l))
 
 unfoldable pub folding : List ℕ → Pair
@@ -176,7 +173,7 @@ orFolding (F.Folds key target next) otherwise = E.Folding key target next
 orFolding F.No otherwise = otherwise
 
 abbrev pub orRule : Parts → Entry → Entry
-orRule (P.Four p p′ s s′ v v′ o o′ next) otherwise = E.Rule p p′ s s′ v v′ o o′ next
+orRule (P.Four four) otherwise = E.Rule four
 orRule P.No otherwise = otherwise
 
 unfoldable pub entry : List ℕ → Entry

@@ -5,8 +5,8 @@ use mathlib.Core.Bool.{cond}
 use mathlib.Core.List.{List, [], _∷_}
 use lib.Dec.{eqb}
 use lib.ListN.{take, drop}
-use Rattle.laws.specs.Lists.{cut}
-use Rattle.rule_text.specs.Forms.{newline, count, entry}
+use Rattle.laws.specs.Lists.{countOf}
+use Rattle.rule_text.specs.Forms.{newline, inside, entry}
 use Rattle.rule_text.specs.declared.Entry.{Entry}
 use Rattle.rule_text.specs.declared.Entry.the-variants as E
 
@@ -26,7 +26,7 @@ pub record Item : Type 0 where
 
 -- what an item says whose forms were found at places of l
 abbrev pub said : List ℕ → Entry → Saying
-said l (E.Rule p p′ s s′ v v′ o o′ next) = RuleItem (cut l p p′) (cut l s s′) (cut l v v′) (cut l o o′)
+said l (E.Rule four) = RuleItem (inside l (four .pattern)) (inside l (four .start)) (inside l (four .vowel)) (inside l (four .other))
 said l (E.Folding key target next) = FoldingItem key target
 said l (E.LineEnd next) = LineEndItem
 said l (E.Comment next) = CommentItem
@@ -39,7 +39,7 @@ throughNewline (x ∷ xs) = cond (eqb x newline) 1 (suc (throughNewline xs))
 
 -- how many bytes an item takes
 abbrev pub taken : List ℕ → Entry → ℕ
-taken l (E.Rule p p′ s s′ v v′ o o′ next) = next
+taken l (E.Rule four) = four .next
 taken l (E.Folding key target next) = next
 taken l (E.LineEnd next) = next
 taken l (E.Comment next) = next
@@ -51,7 +51,7 @@ itemOf place l e = record { place = place; length = taken l e; saying = said l e
 
 -- An item that is not recognised ends the reading.
 abbrev pub followed : Entry → List Item → List Item
-followed (E.Rule p p′ s s′ v v′ o o′ next) is = is
+followed (E.Rule four) is = is
 followed (E.Folding key target next) is = is
 followed (E.LineEnd next) is = is
 followed (E.Comment next) is = is
@@ -73,4 +73,4 @@ items text = itemsAt text 0
 
 -- 02, M-102: "The line is from now on 1 plus the newlines before the faulty item's first byte."
 abbrev pub lineOf : List ℕ → ℕ → ℕ
-lineOf text place = 1 + count newline (take place text)
+lineOf text place = 1 + countOf newline (take place text)

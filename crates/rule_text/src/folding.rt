@@ -3,35 +3,35 @@ ghost use mathlib.Core.Path.{_≡_};
 ghost use lib.ListN.{length};
 ghost use Rattle.rule_text.specs.Forms.{letterAt, folding};
 ghost use Rattle.rule_text.specs.Answers.{Reads, Pairs};
-use super::Letter;
 use super::Pair;
 use super::Reach;
+use super::Symbol;
 use super::lines::line_at;
 use super::scan::byte;
 use chars::Char;
 use chars::utf8::char_at;
 
 // The character at a place.
-fn letter_at(rest: &[u8], at: usize) -> Letter
+fn letter_at(rest: &[u8], at: usize) -> Symbol
     ensures { λ r. ⌜ (r ≡ letterAt (now (rest .entry)) at) × Reads at (length (now (rest .entry))) r ⌝ }
 {
     match char_at(rest, at) {
-        Char::One(c, w) => Letter::Is(c, at + w),
-        Char::Bad => Letter::No,
-        Char::End => Letter::No,
+        Char::One(c, w) => Symbol::Is(c, at + w),
+        Char::Bad => Symbol::No,
+        Char::End => Symbol::No,
     }
 }
 
 pub fn folding(rest: &[u8]) -> Pair
     ensures { λ r. ⌜ (r ≡ folding (now (rest .entry))) × Pairs (length (now (rest .entry))) r ⌝ }
 {
-    let Letter::Is(key, sign) = letter_at(rest, 0) else {
+    let Symbol::Is(key, sign) = letter_at(rest, 0) else {
         return Pair::No;
     };
     if byte(rest, sign) != b'=' {
         return Pair::No;
     }
-    let Letter::Is(target, behind) = letter_at(rest, sign + 1) else {
+    let Symbol::Is(target, behind) = letter_at(rest, sign + 1) else {
         return Pair::No;
     };
     let Reach::To(next) = line_at(rest, behind) else {

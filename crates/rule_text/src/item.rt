@@ -13,36 +13,15 @@ use super::comment::multiline_comment;
 use super::folding::folding;
 use super::lines::end_of_line;
 use super::rule::quadruplet;
-use super::scan::count_of;
+use chars::scan::count_of;
 
 pub fn item(rest: &[u8]) -> Entry
     ensures { λ r. ⌜ (r ≡ entry (now (rest .entry))) × Lies (length (now (rest .entry))) r ⌝ }
 {
-    let Parts::Four {
-        pattern,
-        pattern_end,
-        start,
-        start_end,
-        vowel,
-        vowel_end,
-        other,
-        other_end,
-        next,
-    } = quadruplet(rest)
-    else {
+    let Parts::Four(four) = quadruplet(rest) else {
         return no_rule(rest);
     };
-    Entry::Rule {
-        pattern,
-        pattern_end,
-        start,
-        start_end,
-        vowel,
-        vowel_end,
-        other,
-        other_end,
-        next,
-    }
+    Entry::Rule(four)
 }
 
 fn no_rule(rest: &[u8]) -> Entry

@@ -6,8 +6,8 @@ ghost use Rattle.rule_text.specs.Forms.{comment, ending, endOfLine, line
 ghost use Rattle.rule_text.specs.Answers.{EndsLine, From};
 use super::Reach;
 use super::scan::count_blanks;
-use super::scan::count_until;
 use super::scan::pair_at;
+use chars::scan::count_until;
 
 // How long the comment in front is; 0 where there is none.
 fn eol_comment(rest: &[u8]) -> usize

@@ -2,16 +2,18 @@
 ghost use Prim.Native.Nat.{_≤_};
 ghost use mathlib.Core.Path.{_≡_};
 ghost use lib.ListN.{length};
-ghost use Rattle.rule_text.specs.Forms.{plain, escaped, part, partAt, quadruplet};
-ghost use Rattle.rule_text.specs.Answers.{Holds, HoldsFour};
+ghost use Rattle.rule_text.specs.Forms.{plain, escaped, part, partAt, inside, quadruplet};
+ghost use Rattle.rule_text.specs.Answers.{Holds, HoldsFour, Within};
+use super::Four;
 use super::Parts;
 use super::Quoted;
 use super::Reach;
+use super::Span;
 use super::lines::line_at;
 use super::scan::byte;
 use super::scan::count_blanks;
-use super::scan::count_until;
 use super::scan::pair_at;
+use chars::scan::count_until;
 
 // "If the next two bytes are backslash and quote, they are the content and a quote must follow."
 fn escaped(rest: &[u8]) -> Quoted
@@ -82,33 +84,36 @@ pub fn quadruplet(rest: &[u8]) -> Parts
     let Quoted::Held { start, end, next } = part(rest) else {
         return Parts::No;
     };
-    let pattern = start;
-    let pattern_end = end;
+    let pattern = Span { start, end };
     let Quoted::Held { start, end, next } = part_at(rest, next) else {
         return Parts::No;
     };
-    let first = start;
-    let first_end = end;
+    let first = Span { start, end };
     let Quoted::Held { start, end, next } = part_at(rest, next) else {
         return Parts::No;
     };
-    let vowel = start;
-    let vowel_end = end;
+    let vowel = Span { start, end };
     let Quoted::Held { start, end, next } = part_at(rest, next) else {
         return Parts::No;
     };
     let Reach::To(behind) = line_at(rest, next) else {
         return Parts::No;
     };
-    Parts::Four {
+    Parts::Four(Four {
         pattern,
-        pattern_end,
         start: first,
-        start_end: first_end,
         vowel,
-        vowel_end,
-        other: start,
-        other_end: end,
+        other: Span { start, end },
         next: behind,
-    }
+    })
+}
+
+// The bytes of a span.
+pub fn bytes_in(rest: &[u8], span: Span) -> &[u8]
+    requires { ⌜ Within (length (now rest)) span ⌝ }
+    ensures { λ r. ⌜ now r ≡ inside (now (rest .entry)) span ⌝ }
+{
+    let start = span.start;
+    let end = span.end;
+    &rest[start..end]
 }

@@ -4,7 +4,7 @@ ghost use mathlib.Core.Path.{_≡_};
 ghost use mathlib.Core.Bool.{_||_};
 ghost use lib.Dec.{eqb};
 ghost use lib.ListN.{length, getD};
-ghost use Rattle.rule_text.specs.Forms.{space, tab, blanks, until, count, pairAt};
+ghost use Rattle.rule_text.specs.Forms.{space, tab, blanks, pairAt};
 
 // The byte at k; 0, which no form asks for, past the end.
 pub(crate) fn byte(s: &[u8], k: usize) -> u8
@@ -45,35 +45,4 @@ pub(crate) fn count_blanks(rest: &[u8]) -> usize
         i += 1;
     }
     i
-}
-
-// How many bytes stand before the first b; all of them where there is none.
-pub(crate) fn count_until(rest: &[u8], b: u8) -> usize
-    ensures { λ r. ⌜ (r ≡ until b (now (rest .entry))) × (r ≤ length (now (rest .entry))) ⌝ }
-{
-    let mut i: usize = 0;
-    while i < rest.len() {
-        if rest[i] == b {
-            return i;
-        }
-        i += 1;
-    }
-    i
-}
-
-// How many bytes are b.
-pub(crate) fn count_of(s: &[u8], b: u8) -> usize
-    ensures { λ r. ⌜ (r ≡ count b (now (s .entry))) × (r ≤ length (now (s .entry))) ⌝ }
-{
-    let mut i: usize = 0;
-    let mut n: usize = 0;
-    while i < s.len() {
-        if s[i] != b {
-            i += 1;
-            continue;
-        }
-        n += 1;
-        i += 1;
-    }
-    n
 }

@@ -4,10 +4,10 @@ use Prim.Native.Nat.{ℕ}
 use mathlib.Core.Path.{_≡_, refl}
 use mathlib.Core.Bool.{true}
 use mathlib.Core.List.{List, [], _∷_}
-use Rattle.laws.specs.Lists.{same, splitAt}
+use Rattle.laws.specs.Lists.{same, splitAt, until, countOf}
 use Rattle.laws.proofs.Same.{same-equal}
 use Rattle.chars.specs.Utf8.{textFrom}
-use Rattle.rule_text.specs.Forms.{entry, quadruplet, folding, multilineComment, endOfLine, ending, comment, blanks, until, count, later, pairAt, lineAt, part, plain}
+use Rattle.rule_text.specs.Forms.{entry, quadruplet, folding, multilineComment, endOfLine, ending, comment, blanks, later, pairAt, lineAt, part, plain}
 use Rattle.rule_text.specs.Forms.{escaped, partAt, letterAt, closing}
 use Rattle.rule_text.specs.Items.{itemsFrom}
 use Rattle.plate.specs.Bits.{bit, numberAt}
@@ -93,7 +93,7 @@ constant =
 
 -- The text is read, sorted and written by computation; compared byte by byte.
 computed : same constant standard ≡ true
-unfolding textFrom standard buildAnswer verdict splitAt entry quadruplet folding multilineComment endOfLine ending comment blanks until count later pairAt lineAt part
+unfolding textFrom standard buildAnswer verdict splitAt entry quadruplet folding multilineComment endOfLine ending comment blanks until countOf later pairAt lineAt part
     plain escaped partAt letterAt closing itemsFrom
 computed = refl
 

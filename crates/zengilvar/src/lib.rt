@@ -1,13 +1,15 @@
 // The library that C and Rust link: build, encode and list with 01's numbers in place of enums, which C does not have. include/zengilvar.h declares it.
 ghost use Rattle.builder.specs.Build.{buildAnswer};
 ghost use Rattle.coder.specs.Answer.{listAnswer, encodeAnswer};
-ghost use Rattle.builder.specs.Survey.{numberOf};
+ghost use Rattle.builder.specs.Survey.{faultNumber};
+ghost use Rattle.book.specs.Note.{flawNumber};
 ghost use Rattle.builder.specs.Outcome as build;
 ghost use Rattle.coder.specs.Outcome as code;
 ghost use Rattle.zengilvar.specs.Numbers.{built, coded};
 ghost use mathlib.Core.Path.{_≡_};
 ghost use mathlib.Core.List.{List};
 ghost use Prim.Native.Nat.{ℕ};
+use book::Flaw;
 use builder::Built;
 use builder::Fault;
 use builder::build;
@@ -34,16 +36,24 @@ pub struct DmCoded {
 }
 
 // 01's number of a fault.
+fn flaw_number(flaw: Flaw) -> u64
+    ensures { λ r. ⌜ r ≡ flawNumber flaw ⌝ }
+{
+    match flaw {
+        Flaw::EmptyPattern => 4,
+        Flaw::LongPattern => 5,
+        Flaw::ManyAlternatives => 6,
+        Flaw::NotDigits => 7,
+        Flaw::TooMany => 8,
+    }
+}
+
 fn fault_number(fault: Fault) -> u64
-    ensures { λ r. ⌜ r ≡ numberOf fault ⌝ }
+    ensures { λ r. ⌜ r ≡ faultNumber fault ⌝ }
 {
     match fault {
         Fault::NotRecognised => 3,
-        Fault::EmptyPattern => 4,
-        Fault::LongPattern => 5,
-        Fault::ManyAlternatives => 6,
-        Fault::NotDigits => 7,
-        Fault::TooMany => 8,
+        Fault::Flawed(flaw) => flaw_number(flaw),
     }
 }
 

@@ -6,12 +6,14 @@ use native.Mathlib.Omega.{arith}
 use borrow.Author.Needs.{needs}
 use lib.ListN.{length}
 use Rattle.rule_text.specs.Items.{items}
-use Rattle.builder.specs.Build.{Book, blank, verdict, answered, buildAnswer}
-use Rattle.builder.specs.Survey.{bookOf, SurveyIs}
-use Rattle.builder.specs.Writing.{bytesOf}
-use Rattle.builder.specs.declared.survey.Tally.{Tally}
+use Rattle.book.specs.Book.{Book, blank}
+use Rattle.book.specs.Note.{bookOf}
+use Rattle.book.specs.Writing.{bytesOf}
+use Rattle.book.specs.declared.Tally.{Tally}
+use Rattle.book.proofs.Scripts.{plate-length}
+use Rattle.builder.specs.Build.{verdict, answered, buildAnswer}
+use Rattle.builder.specs.Survey.{view, SurveyIs}
 use Rattle.builder.specs.declared.survey.Surveyed.the-variants as Surveyed
-use Rattle.builder.proofs.Scripts.{plate-length}
 use Rattle.builder.proofs.Replies.{too-long, not-text, holds-zero, read, faulty, no-room, plate-built}
 use Rattle.builder.proofs.build.Statement.{statement}
 use Rattle.builder.proofs.build.Tie as tie
@@ -57,7 +59,7 @@ abbrev foldings : tie.After-tally → List ℕ
 foldings c = noted c .survey .last .1 .1 .0
 
 abbrev book : tie.After-tally → Book
-book c = bookOf (entered (good (noted c)) .args .text .now) (tally c) (keys c) (foldings c)
+book c = bookOf (view (entered (good (noted c)) .args .text .now)) (tally c) (keys c) (foldings c)
 
 fine : (c : tie.After-tally) → let text = entered (good (noted c)) .args .text .now in
     SurveyIs text (keys c) (foldings c) (verdict blank (items text)) (Surveyed.Fine (tally c))
@@ -68,12 +70,12 @@ fine c =
 few : (c : tie.After-tally) → (tally c .foldings ≤ 128) × (tally c .bits ≤ 406016)
 few c =
     let k = fine c .0 in
-    let pairs = k .fewPairs in
-    let rules = k .few in
-    let bits = k .fewBits in (omega arith, omega arith)
+    let pairs = k .pairs .few in
+    let rules = k .rules .few in
+    let bits = k .rules .fewBits in (omega arith, omega arith)
 
 size : (c : tie.After-tally) → length (bytesOf (entered (good (noted c)) .args .flag) (book c)) ≡ (32 + 42 * tally c .foldings + tally c .bits + 7) / 8
-size c = let a = entered (good (noted c)) .args in plate-length (a .text .now) (tally c) (keys c) (foldings c) (a .flag) (fine c .0)
+size c = let a = entered (good (noted c)) .args in plate-length (view (a .text .now)) (tally c) (keys c) (foldings c) (a .flag) (fine c .0)
 
 -- ---- the needs
 

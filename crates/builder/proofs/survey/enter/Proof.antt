@@ -1,13 +1,51 @@
 -- `survey::enter` meets its contract. Each form of an item is one turn (Turns: rule-turn, folding-turn, line-end-turn, comment-turn, unknown-turn). Assumes nothing.
 use mathlib.Core.Path.{sym, subst}
+use mathlib.Core.List.{List}
+use Prim.Native.Nat.{ℕ, _+_, _≤_}
 use native.Mathlib.Omega.{arith}
 use borrow.Author.Needs.{needs}
-use Rattle.builder.specs.declared.survey.Tally.{Tally}
-use Rattle.builder.specs.declared.survey.Turn.the-variants.{On}
+use lib.ListN.{length}
+use Rattle.laws.proofs.Parts.{lent, known}
+use Rattle.rule_text.specs.Answers.{Lies, FourIn, FoldingIn}
+use Rattle.rule_text.specs.declared.Four.{Four}
+use Rattle.rule_text.specs.declared.Entry.the-variants as E
 use Rattle.builder.specs.Survey.{TurnIs}
-use Rattle.builder.proofs.Turns.{bounded, line-end-turn, comment-turn, unknown-turn, folding-turn, rule-turn}
+use Rattle.builder.proofs.Turns.{low, behind-low, line-end-turn, comment-turn, unknown-turn, folding-turn, rule-turn}
 use Rattle.builder.proofs.survey.enter.Statement.{statement}
 use Rattle.builder.proofs.survey.enter.Tie as tie
+
+-- ---- the places: the start, and the item found
+
+abbrev start : tie.After-item → tie.Start
+start c = let slices = c .before .before in slices .before .before .before
+
+abbrev text : tie.After-item → List ℕ
+text c = start c .args .text .now
+
+abbrev at : tie.After-item → ℕ
+at c = start c .args .at
+
+abbrev rule : tie.After-known-told → tie.After-item
+rule c = c .before .before .before
+
+abbrev pair : tie.After-known-told2 → tie.After-item
+pair c = c .before .before .before
+
+abbrev line : tie.After-known-told3 → tie.After-item
+line c = c .before .before .before
+
+abbrev comment : tie.After-known-told4 → tie.After-item
+comment c = c .before .before .before
+
+abbrev four : tie.After-known-told → Four
+four c = c .before .four .given .0 .0
+
+found : (c : tie.After-known-told) → FourIn (length (lent (at (rule c)) (text (rule c)))) (four c)
+found c = known (Lies (length (lent (at (rule c)) (text (rule c))))) (rule c .item .ensures) (c .before .four .given .1) .1
+
+folds : (c : tie.After-known-told2) → let v = c .before .key .given .0 in
+    FoldingIn (length (lent (at (pair c)) (text (pair c)))) (v .0) (v .1 .0) (v .1 .1 .0)
+folds c = known (Lies (length (lent (at (pair c)) (text (pair c))))) (pair c .item .ensures) (c .before .key .given .1) .1
 
 sub-rest : tie.Need-sub-rest
 sub-rest c = search needs
@@ -21,89 +59,70 @@ part-rest-end c = search needs
 item-requires : tie.Need-item-requires
 item-requires c κs = search needs
 
-enum-known-pattern : tie.Need-enum-known-pattern
-enum-known-pattern c = search needs
+enum-known-four : tie.Need-enum-known-four
+enum-known-four c = search needs
 
-sub-enter-rule : tie.Need-sub-enter-rule
-sub-enter-rule c =
-    let w = rw (c .before .before .pattern .given .1) at (c .before .before .before .before .item .ensures .1) in omega (arith, w .0, w .1, w .8)
+note-four-requires : tie.Need-note-four-requires
+note-four-requires c κs =
+    let k = c .before in
+    let s = start (rule k) in
+    let a = s .args in
+    (s .pre .0 .noted .rules, low (a .text .now) (a .at) (a .tally) (a .keys .now) (a .foldings .now) (s .pre .0) (s .pre .1), found k)
 
-part-enter-rule-start : tie.Need-part-enter-rule-start
-part-enter-rule-start c =
-    let w = rw (c .before .before .pattern .given .1) at (c .before .before .before .before .item .ensures .1) in omega (arith, w .0, w .1, w .8)
+add-behind : tie.Need-add-behind
+add-behind c =
+    let noted = c .before .before .before in
+    let k = noted .before .before in
+    let s = start (rule k) in
+    let a = s .args in
+    let n = behind-low (a .text .now) (a .at) (a .tally) (a .keys .now) (a .foldings .now) (s .pre .0) (s .pre .1) (E.Rule (four k)) (rule k .item .ensures) (k .before .four .given .1) in
+    omega arith
 
-part-enter-rule-end : tie.Need-part-enter-rule-end
-part-enter-rule-end c =
-    let w = rw (c .before .before .pattern .given .1) at (c .before .before .before .before .item .ensures .1) in omega (arith, w .0, w .1, w .8)
-
-sub-enter-rule-2 : tie.Need-sub-enter-rule-2
-sub-enter-rule-2 c =
-    let w = rw (c .before .before .before .pattern .given .1) at (c .before .before .before .before .before .item .ensures .1) in omega (arith, w .2, w .3, w .8)
-
-part-enter-rule-start-2 : tie.Need-part-enter-rule-start-2
-part-enter-rule-start-2 c =
-    let w = rw (c .before .before .before .pattern .given .1) at (c .before .before .before .before .before .item .ensures .1) in omega (arith, w .2, w .3, w .8)
-
-part-enter-rule-end-2 : tie.Need-part-enter-rule-end-2
-part-enter-rule-end-2 c =
-    let w = rw (c .before .before .before .pattern .given .1) at (c .before .before .before .before .before .item .ensures .1) in omega (arith, w .2, w .3, w .8)
-
-sub-enter-rule-3 : tie.Need-sub-enter-rule-3
-sub-enter-rule-3 c =
-    let w = rw (c .before .before .before .before .pattern .given .1) at (c .before .before .before .before .before .before .item .ensures .1) in omega (arith, w .4, w .5, w .8)
-
-part-enter-rule-start-3 : tie.Need-part-enter-rule-start-3
-part-enter-rule-start-3 c =
-    let w = rw (c .before .before .before .before .pattern .given .1) at (c .before .before .before .before .before .before .item .ensures .1) in omega (arith, w .4, w .5, w .8)
-
-part-enter-rule-end-3 : tie.Need-part-enter-rule-end-3
-part-enter-rule-end-3 c =
-    let w = rw (c .before .before .before .before .pattern .given .1) at (c .before .before .before .before .before .before .item .ensures .1) in omega (arith, w .4, w .5, w .8)
-
-sub-enter-rule-4 : tie.Need-sub-enter-rule-4
-sub-enter-rule-4 c =
-    let w = rw (c .before .before .before .before .before .pattern .given .1) at (c .before .before .before .before .before .before .before .item .ensures .1) in omega (arith, w .6, w .7, w .8)
-
-part-enter-rule-start-4 : tie.Need-part-enter-rule-start-4
-part-enter-rule-start-4 c =
-    let w = rw (c .before .before .before .before .before .pattern .given .1) at (c .before .before .before .before .before .before .before .item .ensures .1) in omega (arith, w .6, w .7, w .8)
-
-part-enter-rule-end-4 : tie.Need-part-enter-rule-end-4
-part-enter-rule-end-4 c =
-    let w = rw (c .before .before .before .before .before .pattern .given .1) at (c .before .before .before .before .before .before .before .item .ensures .1) in omega (arith, w .6, w .7, w .8)
-
-enter-rule-requires : tie.Need-enter-rule-requires
-enter-rule-requires c κs =
-    let k = c .before .before .before .before .before .before .before .before .before .before .before .before .before .pre .0 in
-    let w = rw (c .before .before .before .before .before .before .pattern .given .1) at (c .before .before .before .before .before .before .before .before .item .ensures .1) in
-    let b = bounded (c .before .before .before .before .before .before .before .before .before .before .before .before .before .args .tally) _ k (c .before .before .before .before .before .before .before .before .before .before .before .before .before .pre .1) (w .8) in (k .room, b .0, b .1, b .2)
+behind-requires : tie.Need-behind-requires
+behind-requires c κs = search needs
 
 enum-known-key : tie.Need-enum-known-key
 enum-known-key c = search needs
 
-enter-folding-requires : tie.Need-enter-folding-requires
-enter-folding-requires c κs =
-    let k = c .before .before .before .before .before .before .before .before .before .pre .0 in
-    let w = rw (c .before .before .key .given .1) at (c .before .before .before .before .item .ensures .1) in
-    let b = bounded (c .before .before .before .before .before .before .before .before .before .args .tally) _ k (c .before .before .before .before .before .before .before .before .before .pre .1) (w .0) in (k .roomPairs, k .fewPairs, w .2, w .4, b .0, b .1)
+note-folding-requires : tie.Need-note-folding-requires
+note-folding-requires c κs =
+    let k = c .before in
+    let w = folds k in (start (pair k) .pre .0 .noted .pairs, w .keySmall, w .targetSmall)
+
+add-behind-2 : tie.Need-add-behind-2
+add-behind-2 c =
+    let noted = c .before .before in
+    let k = noted .before .before in
+    let s = start (pair k) in
+    let a = s .args in
+    let v = k .before .key .given in
+    let n = behind-low (a .text .now) (a .at) (a .tally) (a .keys .now) (a .foldings .now) (s .pre .0) (s .pre .1) (E.Folding (v .0 .0) (v .0 .1 .0) (v .0 .1 .1 .0)) (pair k .item .ensures) (v .1) in
+    omega arith
+
+behind-requires-2 : tie.Need-behind-requires-2
+behind-requires-2 c κs = search needs
 
 enum-known-next : tie.Need-enum-known-next
 enum-known-next c = search needs
 
-pass-requires : tie.Need-pass-requires
-pass-requires c κs =
-    let k = c .before .before .before .before .before .before .before .before .pre .0 in
-    let w = rw (c .before .next .given .1) at (c .before .before .before .item .ensures .1) in
-    let b = bounded (c .before .before .before .before .before .before .before .before .args .tally) _ k (c .before .before .before .before .before .before .before .before .pre .1) (w .0) in (b .0, b .1)
+add-t26 : tie.Need-add-t26
+add-t26 c =
+    let s = start (line c) in
+    let a = s .args in
+    let v = c .before .next .given in
+    let n = behind-low (a .text .now) (a .at) (a .tally) (a .keys .now) (a .foldings .now) (s .pre .0) (s .pre .1) (E.LineEnd (v .0 .0)) (line c .item .ensures) (v .1) in
+    omega arith
 
 enum-known-next-2 : tie.Need-enum-known-next-2
 enum-known-next-2 c = search needs
 
-pass-requires-2 : tie.Need-pass-requires-2
-pass-requires-2 c κs =
-    let k = c .before .before .before .before .before .before .before .before .pre .0 in
-    let w = rw (c .before .next2 .given .1) at (c .before .before .before .item .ensures .1) in
-    let b = bounded (c .before .before .before .before .before .before .before .before .args .tally) _ k (c .before .before .before .before .before .before .before .before .pre .1) (w .1) in (b .0, b .1)
+add-t27 : tie.Need-add-t27
+add-t27 c =
+    let s = start (comment c) in
+    let a = s .args in
+    let v = c .before .next2 .given in
+    let n = behind-low (a .text .now) (a .at) (a .tally) (a .keys .now) (a .foldings .now) (s .pre .0) (s .pre .1) (E.Comment (v .0 .0)) (comment c .item .ensures) (v .1) in
+    omega arith
 
 enum-told : tie.Need-enum-told
 enum-told c = search needs
@@ -113,33 +132,50 @@ same-length c = search needs
 
 returns : tie.Need-returns
 returns c =
-    let a = c .before .before .before .before .before .before .before .before .before .before .before .before .before .before .before .before .args in
-    rule-turn (a .text .now) (a .tally) (a .keys .now) (a .foldings .now) (c .before .before .before .before .before .before .before .before .before .before .before .before .before .before .before .before .pre .0) (c .before .before .before .before .before .before .before .before .before .before .before .before .before .before .before .before .pre .1) (c .before .before .before .before .before .before .before .before .before .pattern .given .0 .0) (c .before .before .before .before .before .before .before .before .before .pattern .given .0 .1 .0) (c .before .before .before .before .before .before .before .before .before .pattern .given .0 .1 .1 .0) (c .before .before .before .before .before .before .before .before .before .pattern .given .0 .1 .1 .1 .0) (c .before .before .before .before .before .before .before .before .before .pattern .given .0 .1 .1 .1 .1 .0) (c .before .before .before .before .before .before .before .before .before .pattern .given .0 .1 .1 .1 .1 .1 .0) (c .before .before .before .before .before .before .before .before .before .pattern .given .0 .1 .1 .1 .1 .1 .1 .0) (c .before .before .before .before .before .before .before .before .before .pattern .given .0 .1 .1 .1 .1 .1 .1 .1 .0) (c .before .before .before .before .before .before .before .before .before .pattern .given .0 .1 .1 .1 .1 .1 .1 .1 .1 .0) (c .before .before .before .before .before .before .before .before .before .before .before .item .ensures) (c .before .before .before .before .before .before .before .before .before .pattern .given .1) (c .before .before .enter-rule .last .0) (c .before .before .enter-rule .result) (c .before .before .enter-rule .ensures)
+    let noted = c .before .before .before .before in
+    let k = noted .before .before in
+    let s = start (rule k) in
+    let a = s .args in
+    let n = noted .note-four in
+    subst (TurnIs (a .text .now) (a .at) (a .tally) (a .keys .now) (a .foldings .now) (n .last .0) (a .foldings .now)) (sym (c .behind .ensures))
+    (rule-turn (a .text .now) (a .at) (a .tally) (a .keys .now) (a .foldings .now) (s .pre .0) (s .pre .1) (four k) (rule k .item .ensures) (k .before .four .given .1)
+    (n .last .0) (n .result) (n .ensures))
 
 same-length-2 : tie.Need-same-length-2
 same-length-2 c = search needs
 
 returns-2 : tie.Need-returns-2
 returns-2 c =
-    let a = c .before .before .before .before .before .before .before .before .before .before .before .before .args in
-    folding-turn (a .text .now) (a .tally) (a .keys .now) (a .foldings .now) (c .before .before .before .before .before .before .before .before .before .before .before .before .pre .0) (c .before .before .before .before .before .before .before .before .before .before .before .before .pre .1) (c .before .before .before .before .before .key .given .0 .0) (c .before .before .before .before .before .key .given .0 .1 .0) (c .before .before .before .before .before .key .given .0 .1 .1 .0) (c .before .before .before .before .before .before .before .item .ensures) (c .before .before .before .before .before .key .given .1) (c .before .before .enter-folding .last .0) (c .before .before .enter-folding .result) (c .before .before .enter-folding .ensures)
+    let noted = c .before .before .before in
+    let k = noted .before .before in
+    let s = start (pair k) in
+    let a = s .args in
+    let v = k .before .key .given in
+    let n = noted .note-folding in
+    subst (TurnIs (a .text .now) (a .at) (a .tally) (a .keys .now) (a .foldings .now) (a .keys .now) (n .last .0)) (sym (c .behind2 .ensures))
+    (folding-turn (a .text .now) (a .at) (a .tally) (a .keys .now) (a .foldings .now) (s .pre .0) (s .pre .1) (v .0 .0) (v .0 .1 .0) (v .0 .1 .1 .0)
+    (pair k .item .ensures) (v .1) (n .last .0) (n .result) (n .ensures))
 
 returns-3 : tie.Need-returns-3
 returns-3 c =
-    let a = c .before .before .before .before .before .before .before .before .before .args in
-    subst (λ (t : Tally). TurnIs (a .text .now) (a .tally) (a .keys .now) (a .foldings .now) (a .keys .now) (a .foldings .now) (On t)) (sym (c .pass .ensures))
-    (line-end-turn (a .text .now) (a .tally) (a .keys .now) (a .foldings .now) (c .before .before .before .before .before .before .before .before .before .pre .0) (c .before .before .before .before .before .before .before .before .before .pre .1) (c .before .before .next .given .0 .0) (c .before .before .before .before .item .ensures) (c .before .before .next .given .1))
+    let s = start (line c) in
+    let a = s .args in
+    let v = c .before .next .given in
+    line-end-turn (a .text .now) (a .at) (a .tally) (a .keys .now) (a .foldings .now) (s .pre .0) (s .pre .1) (v .0 .0) (line c .item .ensures) (v .1)
 
 returns-4 : tie.Need-returns-4
 returns-4 c =
-    let a = c .before .before .before .before .before .before .before .before .before .args in
-    subst (λ (t : Tally). TurnIs (a .text .now) (a .tally) (a .keys .now) (a .foldings .now) (a .keys .now) (a .foldings .now) (On t)) (sym (c .pass2 .ensures))
-    (comment-turn (a .text .now) (a .tally) (a .keys .now) (a .foldings .now) (c .before .before .before .before .before .before .before .before .before .pre .0) (c .before .before .before .before .before .before .before .before .before .pre .1) (c .before .before .next2 .given .0 .0) (c .before .before .before .before .item .ensures) (c .before .before .next2 .given .1))
+    let s = start (comment c) in
+    let a = s .args in
+    let v = c .before .next2 .given in
+    comment-turn (a .text .now) (a .at) (a .tally) (a .keys .now) (a .foldings .now) (s .pre .0) (s .pre .1) (v .0 .0) (comment c .item .ensures) (v .1)
 
 returns-5 : tie.Need-returns-5
 returns-5 c =
-    let a = c .before .before .before .before .before .before .before .args in
-    unknown-turn (a .text .now) (a .tally) (a .keys .now) (a .foldings .now) (c .before .before .before .before .before .before .before .pre .0) (c .before .before .before .before .before .before .before .pre .1) (c .before .before .item .ensures) (c .enum-told .given .1)
+    let found = c .before .before in
+    let s = start found in
+    let a = s .args in
+    unknown-turn (a .text .now) (a .at) (a .tally) (a .keys .now) (a .foldings .now) (s .pre .0) (s .pre .1) (found .item .ensures) (c .enum-told .given .1)
 
 pub enter-spec : {M : Type 1} → statement M
 enter-spec =
@@ -149,26 +185,18 @@ enter-spec =
     part-rest-start
     part-rest-end
     item-requires
-    enum-known-pattern
-    sub-enter-rule
-    part-enter-rule-start
-    part-enter-rule-end
-    sub-enter-rule-2
-    part-enter-rule-start-2
-    part-enter-rule-end-2
-    sub-enter-rule-3
-    part-enter-rule-start-3
-    part-enter-rule-end-3
-    sub-enter-rule-4
-    part-enter-rule-start-4
-    part-enter-rule-end-4
-    enter-rule-requires
+    enum-known-four
+    note-four-requires
+    add-behind
+    behind-requires
     enum-known-key
-    enter-folding-requires
+    note-folding-requires
+    add-behind-2
+    behind-requires-2
     enum-known-next
-    pass-requires
+    add-t26
     enum-known-next-2
-    pass-requires-2
+    add-t27
     enum-told
     same-length
     returns

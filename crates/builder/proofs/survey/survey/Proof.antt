@@ -1,40 +1,68 @@
 -- `survey::survey` meets its contract. The loop keeps: the verdict on the items from here on, behind what is noted, is the verdict on all. Assumes nothing.
 use Prim.Native.Nat.{_-_}
-use mathlib.Core.Path.{_≡_, refl, sym, _∙_}
+use mathlib.Core.Path.{_≡_, refl, sym, _∙_, subst}
 use native.Mathlib.Omega.{arith}
 use borrow.Author.Needs.{needs}
 use lib.ListN.{length}
 use Rattle.rule_text.specs.Items.{items}
-use Rattle.builder.specs.Build.{blank, verdict}
-use Rattle.builder.specs.Survey.{Kept, onward}
+use Rattle.book.specs.Book.{blank}
+use Rattle.builder.specs.Build.{verdict}
+use Rattle.builder.specs.Survey.{SoFar, onward, TurnIs}
+use Rattle.builder.specs.declared.survey.Turn.{Turn}
 use Rattle.builder.proofs.Turns.{survey-start, survey-end}
 use Rattle.builder.proofs.survey.survey.Statement.{statement}
 use Rattle.builder.proofs.survey.survey.Tie as tie
 
 abbrev Inv-loop : tie.InvT-loop
-Inv-loop text keys₀ foldings₀ tally₀ keys foldings tally = Kept text tally keys foldings × (onward text tally keys foldings ≡ verdict blank (items text))
+Inv-loop text keys₀ foldings₀ at₀ tally₀ keys foldings at tally =
+    SoFar text at tally keys foldings × (onward text at tally keys foldings ≡ verdict blank (items text))
 
 abbrev μ-loop : tie.MeasureT-loop
-μ-loop text keys₀ foldings₀ tally₀ keys foldings tally = length text - tally .at
+μ-loop text keys₀ foldings₀ at₀ tally₀ keys foldings at tally = length text - at
+
+-- ---- the places: the call of `enter`, and the loop before it
+
+abbrev called : tie.After-slice-known4 Inv-loop μ-loop → tie.After-enter Inv-loop μ-loop
+called c = c .before .before .before .before
+
+abbrev looped : tie.After-enter Inv-loop μ-loop → tie.At-loop Inv-loop μ-loop
+looped c = c .before .before .before .before
+
+abbrev start : tie.At-loop Inv-loop μ-loop → tie.Start Inv-loop μ-loop
+start c = c .before .before .before .before
+
+-- What one turn says, in an arm.
+turned : (c : tie.After-slice-known4 Inv-loop μ-loop) (t : Turn) → called c .enter .result ≡ t
+    → let l = looped (called c) .loop in
+    let e = called c .enter in
+    TurnIs (start (looped (called c)) .args .text .now) (l .at) (l .tally) (l .keys) (l .foldings) (e .last .1 .0) (e .last .1 .1 .0) t
+turned c t is =
+    let l = looped (called c) .loop in
+    let e = called c .enter in
+    subst (TurnIs (start (looped (called c)) .args .text .now) (l .at) (l .tally) (l .keys) (l .foldings) (e .last .1 .0) (e .last .1 .1 .0)) is (e .ensures)
 
 loop-holds : tie.Need-loop-holds Inv-loop μ-loop
-loop-holds c = let a = c .before .before .before .args in (survey-start (a .text .now) (a .keys .now) (a .foldings .now) (c .before .before .before .pre .0) (c .before .before .before .pre .1) (c .before .before .before .pre .2), refl)
+loop-holds c =
+    let s = c .before .before .before in
+    let a = s .args in (survey-start (a .text .now) (a .keys .now) (a .foldings .now) (s .pre .0) (s .pre .1) (s .pre .2), refl)
 
 enter-requires : tie.Need-enter-requires Inv-loop μ-loop
-enter-requires c κs = (c .before .before .before .before .loop .inv .0, c .before .before .if1 .taken)
+enter-requires c κs = let inside = c .before .before in (inside .before .loop .inv .0, inside .loop-test .taken)
 
 enum-known-next : tie.Need-enum-known-next Inv-loop μ-loop
 enum-known-next c = search needs
 
 loop-less : tie.Need-loop-less Inv-loop μ-loop
 loop-less c =
-    let q = rw (c .before .next .given .1) at (c .before .before .before .before .before .before .before .enter .ensures) in
+    let known = c .before .before .before in
+    let q = turned known _ (c .before .next .given .1) in
     let on = q .1 in
     let to = q .0 .within in omega arith
 
 loop-again : tie.Need-loop-again Inv-loop μ-loop
 loop-again c =
-    let q = rw (c .before .next .given .1) at (c .before .before .before .before .before .before .before .enter .ensures) in (q .0, q .2 ∙ c .before .before .before .before .before .before .before .before .before .before .before .before .loop .inv .1)
+    let known = c .before .before .before in
+    let q = turned known _ (c .before .next .given .1) in (q .0, q .2 ∙ looped (called known) .loop .inv .1)
 
 enum-known-fault : tie.Need-enum-known-fault Inv-loop μ-loop
 enum-known-fault c = search needs
@@ -47,18 +75,22 @@ same-length-2 c = search needs
 
 returns : tie.Need-returns Inv-loop μ-loop
 returns c =
-    let q = rw (c .before .fault .given .1) at (c .before .before .before .before .before .before .before .enter .ensures) in sym (c .before .before .before .before .before .before .before .before .before .before .before .before .loop .inv .1) ∙ q
+    let known = c .before .before .before in
+    sym (looped (called known) .loop .inv .1) ∙ turned known _ (c .before .fault .given .1)
 
 same-length-3 : tie.Need-same-length-3 Inv-loop μ-loop
-same-length-3 c = c .before .before .loop .inv .0 .room ∙ sym (c .before .before .before .before .before .before .pre .1)
+same-length-3 c =
+    let l = c .before in l .loop .inv .0 .noted .rules .room ∙ sym (start l .pre .1)
 
 same-length-4 : tie.Need-same-length-4 Inv-loop μ-loop
-same-length-4 c = c .before .before .loop .inv .0 .roomPairs ∙ sym (c .before .before .before .before .before .before .pre .2)
+same-length-4 c =
+    let l = c .before in l .loop .inv .0 .noted .pairs .room ∙ sym (start l .pre .2)
 
 returns-2 : tie.Need-returns-2 Inv-loop μ-loop
 returns-2 c =
-    let l = c .before .before .loop in
-    (l .inv .0, sym (l .inv .1) ∙ survey-end (c .before .before .before .before .before .before .args .text .now) (l .tally) (l .keys) (l .foldings) (c .if1 .left))
+    let l = c .before .loop in
+    let e = survey-end (start (c .before) .args .text .now) (l .at) (l .tally) (l .keys) (l .foldings) (l .inv .0) (c .loop-test .left) in
+    (e .0, sym (l .inv .1) ∙ e .1)
 
 pub survey-spec : {M : Type 1} → statement M
 survey-spec =

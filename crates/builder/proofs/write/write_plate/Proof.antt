@@ -1,41 +1,88 @@
 -- `write::write_plate` meets its contract: head, foldings and rules, one behind the other, and the last byte filled (Scripts.wrote-plate). Assumes nothing.
 use native.Mathlib.Omega.{arith}
 use borrow.Author.Needs.{needs}
-use lib.ListN.{length, take}
-use Rattle.builder.proofs.Keys.{all-later}
-use Rattle.builder.proofs.Scripts.{ready-head, ready-pairs, ready-keys, ready-end, wrote-plate}
+use Rattle.book.proofs.Scripts.{ready-head, ready-pairs, ready-keys, ready-end, wrote-plate}
+use Rattle.builder.specs.Survey.{view}
 use Rattle.builder.proofs.write.write_plate.Statement.{statement}
 use Rattle.builder.proofs.write.write_plate.Tie as tie
+
+-- ---- before each of the four
+
+abbrev start : tie.After-start → tie.Start
+start c = let known = c .before .before .before .before in known .before .before
+
+abbrev headed : tie.After-put-pairs-arg → tie.After-start
+headed c = c .before .before .before .before
+
+abbrev folded : tie.After-put-rules-arg → tie.After-put-pairs-arg
+folded c = c .before .before .before .before
+
+abbrev ruled : tie.After-finish-arg → tie.After-put-rules-arg
+ruled c = c .before .before .before .before
 
 start-requires : tie.Need-start-requires
 start-requires c κs = search needs
 
 put-head-requires : tie.Need-put-head-requires
-put-head-requires c κs = (c .before .before .before .before .before .before .pre .0 .few, c .before .before .before .before .before .before .pre .0 .fewPairs, ready-head (c .before .before .before .before .before .before .args .text .now) (c .before .before .before .before .before .before .args .tally) (c .before .before .before .before .before .before .args .keys .now) (c .before .before .before .before .before .before .args .foldings .now) (c .before .before .before .before .before .before .args .flag) (c .before .before .before .before .before .before .pre .0) (c .before .before .before .before .before .before .pre .1) (c .start .ensures))
+put-head-requires c κs =
+    let s = start c in
+    let a = s .args in
+    let k = s .pre .0 in
+    (k .rules .few, k .pairs .few, ready-head (view (a .text .now)) (a .tally) (a .keys .now) (a .foldings .now) (a .flag) k (s .pre .1) (c .start .ensures))
 
 put-pairs-requires : tie.Need-put-pairs-requires
 put-pairs-requires c κs =
-    let k = c .before .before .before .before .before .before .before .before .before .before .pre .0 in
-    let n = k .fewPairs in
-    let m = k .roomPairs in
-    (omega arith, k .small, ready-pairs (c .before .before .before .before .before .before .before .before .before .before .args .text .now) (c .before .before .before .before .before .before .before .before .before .before .args .tally) (c .before .before .before .before .before .before .before .before .before .before .args .keys .now) (c .before .before .before .before .before .before .before .before .before .before .args .foldings .now) (c .before .before .before .before .before .before .before .before .before .before .args .flag) (c .before .before .before .before .before .before .before .before .before .before .pre .0) (c .before .before .before .before .before .before .before .before .before .before .pre .1) (c .before .before .before .before .start .ensures) (c .before .before .before .put-head .ensures))
+    let h = headed c in
+    let s = start h in
+    let a = s .args in
+    let k = s .pre .0 in
+    let n = k .pairs .few in
+    let m = k .pairs .room in (
+      omega arith,
+      k .pairs .small,
+      ready-pairs (view (a .text .now)) (a .tally) (a .keys .now) (a .foldings .now) (a .flag) k (s .pre .1) (h .start .ensures) (c .before .before .before .put-head .ensures),
+    )
 
 put-rules-requires : tie.Need-put-rules-requires
 put-rules-requires c κs =
-    let a = c .before .before .before .before .before .before .before .before .before .before .before .before .before .before .args in
-    let k = c .before .before .before .before .before .before .before .before .before .before .before .before .before .before .pre .0 in
-    let n = k .few in
-    let m = k .room in
-    (omega arith, all-later (a .text .now) (a .tally .at) (length (a .text .now)) (take (a .tally .rules) (a .keys .now)) (k .within) (k .sure), ready-keys (c .before .before .before .before .before .before .before .before .before .before .before .before .before .before .args .text .now) (c .before .before .before .before .before .before .before .before .before .before .before .before .before .before .args .tally) (c .before .before .before .before .before .before .before .before .before .before .before .before .before .before .args .keys .now) (c .before .before .before .before .before .before .before .before .before .before .before .before .before .before .args .foldings .now) (c .before .before .before .before .before .before .before .before .before .before .before .before .before .before .args .flag) (c .before .before .before .before .before .before .before .before .before .before .before .before .before .before .pre .0) (c .before .before .before .before .before .before .before .before .before .before .before .before .before .before .pre .1) (c .before .before .before .before .before .before .before .before .start .ensures) (c .before .before .before .before .before .before .before .put-head .ensures) (c .before .before .before .put-pairs .ensures))
+    let f = folded c in
+    let h = headed f in
+    let s = start h in
+    let a = s .args in
+    let k = s .pre .0 in
+    let n = k .rules .few in
+    let m = k .rules .room in (
+      omega arith,
+      k .sure,
+      ready-keys (view (a .text .now)) (a .tally) (a .keys .now) (a .foldings .now) (a .flag) k (s .pre .1) (h .start .ensures)
+          (f .before .before .before .put-head .ensures) (c .before .before .before .put-pairs .ensures),
+    )
 
 finish-requires : tie.Need-finish-requires
-finish-requires c κs = ready-end (c .before .before .before .before .before .before .before .before .before .before .before .before .before .before .before .before .before .before .args .text .now) (c .before .before .before .before .before .before .before .before .before .before .before .before .before .before .before .before .before .before .args .tally) (c .before .before .before .before .before .before .before .before .before .before .before .before .before .before .before .before .before .before .args .keys .now) (c .before .before .before .before .before .before .before .before .before .before .before .before .before .before .before .before .before .before .args .foldings .now) (c .before .before .before .before .before .before .before .before .before .before .before .before .before .before .before .before .before .before .args .flag) (c .before .before .before .before .before .before .before .before .before .before .before .before .before .before .before .before .before .before .pre .0) (c .before .before .before .before .before .before .before .before .before .before .before .before .before .before .before .before .before .before .pre .1) (c .before .before .before .before .before .before .before .before .before .before .before .before .start .ensures) (c .before .before .before .before .before .before .before .before .before .before .before .put-head .ensures) (c .before .before .before .before .before .before .before .put-pairs .ensures) (c .before .before .before .put-rules .ensures)
+finish-requires c κs =
+    let r = ruled c in
+    let f = folded r in
+    let h = headed f in
+    let s = start h in
+    let a = s .args in
+    ready-end (view (a .text .now)) (a .tally) (a .keys .now) (a .foldings .now) (a .flag) (s .pre .0) (s .pre .1) (h .start .ensures)
+    (f .before .before .before .put-head .ensures) (r .before .before .before .put-pairs .ensures) (c .before .before .before .put-rules .ensures)
 
 same-length : tie.Need-same-length
 same-length c = search needs
 
 returns : tie.Need-returns
-returns c = wrote-plate (c .before .before .before .before .before .before .before .before .before .before .before .before .before .before .before .before .before .before .before .before .before .args .text .now) (c .before .before .before .before .before .before .before .before .before .before .before .before .before .before .before .before .before .before .before .before .before .args .tally) (c .before .before .before .before .before .before .before .before .before .before .before .before .before .before .before .before .before .before .before .before .before .args .keys .now) (c .before .before .before .before .before .before .before .before .before .before .before .before .before .before .before .before .before .before .before .before .before .args .foldings .now) (c .before .before .before .before .before .before .before .before .before .before .before .before .before .before .before .before .before .before .before .before .before .args .flag) (c .before .before .before .before .before .before .before .before .before .before .before .before .before .before .before .before .before .before .before .before .before .pre .0) (c .before .before .before .before .before .before .before .before .before .before .before .before .before .before .before .before .before .before .before .before .before .pre .1) (c .before .before .before .before .before .before .before .before .before .before .before .before .before .before .before .start .ensures) (c .before .before .before .before .before .before .before .before .before .before .before .before .before .before .put-head .ensures) (c .before .before .before .before .before .before .before .before .before .before .put-pairs .ensures) (c .before .before .before .before .before .before .put-rules .ensures) (c .before .before .finish .last .0) (c .before .before .finish .result) (c .before .before .finish .ensures)
+returns c =
+    let done = c .before .before in
+    let e = done .before in
+    let r = ruled e in
+    let f = folded r in
+    let h = headed f in
+    let s = start h in
+    let a = s .args in
+    wrote-plate (view (a .text .now)) (a .tally) (a .keys .now) (a .foldings .now) (a .flag) (s .pre .0) (s .pre .1) (h .start .ensures)
+    (f .before .before .before .put-head .ensures) (r .before .before .before .put-pairs .ensures) (e .before .before .before .put-rules .ensures)
+    (done .finish .last .0) (done .finish .result) (done .finish .ensures)
 
 pub write-plate-spec : {M : Type 1} → statement M
 write-plate-spec =

@@ -21,7 +21,8 @@ wide-requires : tie.Need-wide-requires
 wide-requires c κs = search needs
 
 returns-2 : tie.Need-returns-2
-returns-2 c = c .wide .ensures ∙ ap (λ (l : List ℕ). getD l (c .before .before .before .args .c) 0) (c .before .before .before .pre) ∙ entry (c .before .before .before .args .c) (c .before .before .if1 .left)
+returns-2 c = c .wide .ensures ∙ ap (λ (l : List ℕ). getD l (c .before .before .before .args .c) 0) (c .before .before .before .pre) ∙ entry
+    (c .before .before .before .args .c) (c .before .before .if1 .left)
 
 pub lower-spec : {M : Type 1} → statement M
 lower-spec = tie.close (tie.spec returns mul-wide element-copy-out-wide wide-requires returns-2)

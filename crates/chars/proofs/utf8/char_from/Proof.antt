@@ -25,9 +25,11 @@ three-bytes-requires c κs = search needs
 
 returns-3 : tie.Need-returns-3
 returns-3 c =
+    let at-is-between = c .before .before .before .before in
+    let at-if1 = at-is-between .before in
     rw (
-      lt-leb _ _ (c .before .before .before .before .before .if1 .left),
-      told (c .before .before .before .before .is-between .ensures) (c .before .before .before .if2 .left),
+      lt-leb _ _ (at-if1 .if1 .left),
+      told (at-is-between .is-between .ensures) (c .before .before .before .if2 .left),
       told (c .before .before .is-between2 .ensures) (c .before .if3 .taken),
     )
     (c .three-bytes .ensures)
@@ -40,19 +42,26 @@ four-bytes-requires c κs = search needs
 
 returns-4 : tie.Need-returns-4
 returns-4 c =
+    let at-is-between2 = c .before .before .before .before in
+    let at-if2 = at-is-between2 .before in
+    let at-is-between = at-if2 .before in
+    let at-if1 = at-is-between .before in
     rw (
-      lt-leb _ _ (c .before .before .before .before .before .before .before .if1 .left),
-      told (c .before .before .before .before .before .before .is-between .ensures) (c .before .before .before .before .before .if2 .left),
-      told (c .before .before .before .before .is-between2 .ensures) (c .before .before .before .if3 .left),
+      lt-leb _ _ (at-if1 .if1 .left),
+      told (at-is-between .is-between .ensures) (at-if2 .if2 .left),
+      told (at-is-between2 .is-between2 .ensures) (c .before .before .before .if3 .left),
       told (c .before .before .is-between3 .ensures) (c .before .if4 .taken),
     )
     (c .four-bytes .ensures)
 
 returns-5 : tie.Need-returns-5
 returns-5 c =
+    let at-if2 = c .before .before .before .before in
+    let at-is-between = at-if2 .before in
+    let at-if1 = at-is-between .before in
     rw (
-      lt-leb _ _ (c .before .before .before .before .before .before .if1 .left),
-      told (c .before .before .before .before .before .is-between .ensures) (c .before .before .before .before .if2 .left),
+      lt-leb _ _ (at-if1 .if1 .left),
+      told (at-is-between .is-between .ensures) (at-if2 .if2 .left),
       told (c .before .before .before .is-between2 .ensures) (c .before .before .if3 .left),
       told (c .before .is-between3 .ensures) (c .if4 .left),
     )

@@ -33,40 +33,50 @@ loop-less c = let w = rw (c .before .before .c .given .1) at (c .before .before 
 
 loop-again : tie.Need-loop-again Inv-loop μ-loop
 loop-again c =
-    let l = c .before .before .before .before .before .loop in
-    let r = c .before .before .before .before .char-at in
+    let at-char-at = c .before .before .before .before in
+    let at-loop = at-char-at .before in
+    let at-entry = at-loop .before .before in
+    let l = at-loop .loop in
+    let r = at-char-at .char-at in
     let f = c .before .before .c .given in
     let w = rw (f .1) at (r .ensures .1) in
-    turn-zero (c .before .before .before .before .before .before .before .args .s .now) (l .at) (l .holds) (r .result) (r .ensures .0) (f .0 .0) (f .0 .1 .0) (f .1) (w .0) (c .if1 .taken) ∙ l .inv
+    turn-zero (at-entry .args .s .now) (l .at) (l .holds) (r .result) (r .ensures .0) (f .0 .0) (f .0 .1 .0) (f .1) (w .0) (c .if1 .taken) ∙ l .inv
 
 loop-less-2 : tie.Need-loop-less-2 Inv-loop μ-loop
 loop-less-2 c = let w = rw (c .before .before .c .given .1) at (c .before .before .before .before .char-at .ensures .1) in omega arith
 
 loop-again-2 : tie.Need-loop-again-2 Inv-loop μ-loop
 loop-again-2 c =
-    let l = c .before .before .before .before .before .loop in
-    let r = c .before .before .before .before .char-at in
+    let at-char-at = c .before .before .before .before in
+    let at-loop = at-char-at .before in
+    let at-entry = at-loop .before .before in
+    let l = at-loop .loop in
+    let r = at-char-at .char-at in
     let f = c .before .before .c .given in
     let w = rw (f .1) at (r .ensures .1) in
-    turn-other (c .before .before .before .before .before .before .before .args .s .now) (l .at) (l .holds) (r .result) (r .ensures .0) (f .0 .0) (f .0 .1 .0) (f .1) (w .0) (c .if1 .left) ∙ l .inv
+    turn-other (at-entry .args .s .now) (l .at) (l .holds) (r .result) (r .ensures .0) (f .0 .0) (f .0 .1 .0) (f .1) (w .0) (c .if1 .left) ∙ l .inv
 
 enum-told : tie.Need-enum-told Inv-loop μ-loop
 enum-told c = search needs
 
 returns : tie.Need-returns Inv-loop μ-loop
 returns c =
-    let l = c .before .before .before .loop in
+    let at-loop = c .before .before .before in
+    let at-entry = at-loop .before .before in
+    let l = at-loop .loop in
     let r = c .before .before .char-at in
-    stop (c .before .before .before .before .before .args .s .now) (l .at) (l .holds) (r .result) (r .ensures .0) (c .enum-told .given .1) ∙ l .inv
+    stop (at-entry .args .s .now) (l .at) (l .holds) (r .result) (r .ensures .0) (c .enum-told .given .1) ∙ l .inv
 
 enum-told-2 : tie.Need-enum-told-2 Inv-loop μ-loop
 enum-told-2 c = search needs
 
 returns-2 : tie.Need-returns-2 Inv-loop μ-loop
 returns-2 c =
-    let l = c .before .before .before .loop in
+    let at-loop = c .before .before .before in
+    let at-entry = at-loop .before .before in
+    let l = at-loop .loop in
     let r = c .before .before .char-at in
-    done (c .before .before .before .before .before .args .s .now) (l .at) (l .holds) (r .result) (r .ensures .0) (c .enum-told2 .given .1) ∙ l .inv
+    done (at-entry .args .s .now) (l .at) (l .holds) (r .result) (r .ensures .0) (c .enum-told2 .given .1) ∙ l .inv
 
 pub check-text-spec : {M : Type 1} → statement M
 check-text-spec =

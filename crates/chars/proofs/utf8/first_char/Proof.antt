@@ -27,9 +27,12 @@ char-from-requires c κs = search needs
 
 returns-2 : tie.Need-returns-2
 returns-2 c =
+    let at-byte = c .before .before .before .before in
+    let at-if1 = at-byte .before in
+    let at-entry = at-if1 .before .before in
     c .char-from .ensures
-    ∙ (λ i. charOf (c .before .before .before .before .byte .ensures i ∷ c .before .before .before .byte2 .ensures i ∷ c .before .before .byte3 .ensures i ∷ c .before .byte4 .ensures i ∷ []))
-    ∙ numbers (c .before .before .before .before .before .before .before .args .s .now) (c .before .before .before .before .before .if1 .left)
+    ∙ (λ i. charOf (at-byte .byte .ensures i ∷ c .before .before .before .byte2 .ensures i ∷ c .before .before .byte3 .ensures i ∷ c .before .byte4 .ensures i ∷ []))
+    ∙ numbers (at-entry .args .s .now) (at-if1 .if1 .left)
 
 pub first-char-spec : {M : Type 1} → statement M
 first-char-spec =

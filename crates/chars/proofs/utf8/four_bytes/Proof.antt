@@ -36,17 +36,22 @@ held-requires c κs = search needs
 
 returns : tie.Need-returns
 returns c =
+    let at-is-tail2 = c .before .before .before .before in
+    let at-if1 = at-is-tail2 .before in
+    let at-is-tail = at-if1 .before in
     rw (
-      told (c .before .before .before .before .before .before .is-tail .ensures) (c .before .before .before .before .before .if1 .taken),
-      told (c .before .before .before .before .is-tail2 .ensures) (c .before .before .before .if2 .taken),
+      told (at-is-tail .is-tail .ensures) (at-if1 .if1 .taken),
+      told (at-is-tail2 .is-tail2 .ensures) (c .before .before .before .if2 .taken),
       told (c .before .before .is-tail3 .ensures) (c .before .if3 .taken),
     )
     (c .held .ensures)
 
 returns-2 : tie.Need-returns-2
 returns-2 c =
+    let at-if1 = c .before .before .before .before in
+    let at-is-tail = at-if1 .before in
     rw (
-      told (c .before .before .before .before .before .is-tail .ensures) (c .before .before .before .before .if1 .taken),
+      told (at-is-tail .is-tail .ensures) (at-if1 .if1 .taken),
       told (c .before .before .before .is-tail2 .ensures) (c .before .before .if2 .taken),
       told (c .before .is-tail3 .ensures) (c .if3 .left),
     )

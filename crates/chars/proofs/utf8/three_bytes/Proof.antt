@@ -26,7 +26,11 @@ held-requires : tie.Need-held-requires
 held-requires c κs = search needs
 
 returns : tie.Need-returns
-returns c = rw (told (c .before .before .before .before .is-tail .ensures) (c .before .before .before .if1 .taken), told (c .before .before .is-tail2 .ensures) (c .before .if2 .taken)) (c .held .ensures)
+returns c = rw (
+  told (c .before .before .before .before .is-tail .ensures) (c .before .before .before .if1 .taken),
+  told (c .before .before .is-tail2 .ensures)
+      (c .before .if2 .taken),
+) (c .held .ensures)
 
 returns-2 : tie.Need-returns-2
 returns-2 c = rw (told (c .before .before .before .is-tail .ensures) (c .before .before .if1 .taken), told (c .before .is-tail2 .ensures) (c .if2 .left))

@@ -18,11 +18,14 @@ fold-requires c κs = search needs
 
 returns : tie.Need-returns
 returns c =
-    let p = plateAt (edition1 .width) (c .before .before .before .before .before .args .plate .now) in
-    c .fold .ensures ∙ ap (foldBy (p .foldings)) (c .before .before .before .lower .ensures) ∙ sym (folded p (c .before .before .before .before .before .args .c) (sym (c .before .before .flag .ensures) ∙ c .before .if1 .taken))
+    let at-lower = c .before .before .before in
+    let at-entry = at-lower .before .before in
+    let p = plateAt (edition1 .width) (at-entry .args .plate .now) in
+    c .fold .ensures ∙ ap (foldBy (p .foldings)) (at-lower .lower .ensures) ∙ sym (folded p (at-entry .args .c) (sym (c .before .before .flag .ensures) ∙ c .before .if1 .taken))
 
 returns-2 : tie.Need-returns-2
-returns-2 c = c .before .before .lower .ensures ∙ sym (unfolded (plateAt (edition1 .width) (c .before .before .before .before .args .plate .now)) (c .before .before .before .before .args .c) (sym (c .before .flag .ensures) ∙ c .if1 .left))
+returns-2 c = c .before .before .lower .ensures ∙ sym (unfolded (plateAt (edition1 .width) (c .before .before .before .before .args .plate .now))
+    (c .before .before .before .before .args .c) (sym (c .before .flag .ensures) ∙ c .if1 .left))
 
 pub coded-char-spec : {M : Type 1} → statement M
 coded-char-spec = tie.close (tie.spec lower-requires flag-requires fold-requires returns returns-2)

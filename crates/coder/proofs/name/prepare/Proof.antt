@@ -101,7 +101,8 @@ returns-2 c =
     let read = k .before .before .before in
     let i = read .before .loop .inv in
     refuses _ _ _ _ (c .no-chars2 .ensures)
-    (strange _ _ _ _ _ (i .2) _ (read .char-at .ensures .0) _ _ (k .before .c .given .1) (wide k .0) (sym (spaced .is-space .ensures) ∙ tested .before .if2 .left) (tested .if3 .taken) _ (fault .foreign-fault .ensures))
+    (strange _ _ _ _ _ (i .2) _ (read .char-at .ensures .0) _ _ (k .before .c .given .1) (wide k .0) (sym (spaced .is-space .ensures) ∙ tested .before .if2 .left)
+    (tested .if3 .taken) _ (fault .foreign-fault .ensures))
 
 coded-char-requires : tie.Need-coded-char-requires Inv-loop μ-loop
 coded-char-requires c κs =
@@ -134,7 +135,8 @@ loop-again-2 c =
     let w = wide k in (
       omega arith,
       w .1,
-      kept _ _ _ _ _ (i .2) _ (read .char-at .ensures .0) _ _ (k .before .c .given .1) (w .0) (sym (spaced .is-space .ensures) ∙ tested .before .if2 .left) (tested .if3 .left) (few k) _ (c .coded-char .ensures),
+      kept _ _ _ _ _ (i .2) _ (read .char-at .ensures .0) _ _ (k .before .c .given .1) (w .0) (sym (spaced .is-space .ensures) ∙ tested .before .if2 .left)
+          (tested .if3 .left) (few k) _ (c .coded-char .ensures),
     )
 
 enum-told : tie.Need-enum-told Inv-loop μ-loop

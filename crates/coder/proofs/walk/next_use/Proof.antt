@@ -100,7 +100,8 @@ loop-again c =
     let below = s .before .before .before .loop-test .taken in
     let i = l .inv .0 in (
       omega arith,
-      known (rules-of s) (name-of s) (start .args .most) (rules-good edition1 (plate-of s) a) (rules-ordered edition1 (plate-of s) a) (l .started) (l .before) (l .at) below (rw (c .if1 .taken) at (told k))
+      known (rules-of s) (name-of s) (start .args .most) (rules-good edition1 (plate-of s) a) (rules-ordered edition1 (plate-of s) a) (l .started) (l .before)
+          (l .at) below (rw (c .if1 .taken) at (told k))
           ∙ l .inv .1,
     )
 
@@ -118,7 +119,8 @@ loop-again-2 c =
     let below = s .before .before .before .loop-test .taken in
     let i = l .inv .0 in (
       omega arith,
-      unknown (rules-of s) (name-of s) (start .args .most) (rules-good edition1 (plate-of s) a) (rules-ordered edition1 (plate-of s) a) (l .started) (l .before) (l .at) below (rw (c .if1 .left) at (told k))
+      unknown (rules-of s) (name-of s) (start .args .most) (rules-good edition1 (plate-of s) a) (rules-ordered edition1 (plate-of s) a) (l .started) (l .before)
+          (l .at) below (rw (c .if1 .left) at (told k))
           ∙ l .inv .1,
     )
 
@@ -180,7 +182,8 @@ returns-2 c =
     let l = at-loop .loop in
     rw (c .no-use .ensures) (record {
       ok = none-held;
-      is = sym (l .inv .1) ∙ from-end (plateAt (edition1 .width) (start .args .plate .now) .rules) (start .args .name .now) (start .args .most) (l .started) (l .before) (l .at) (done .loop-test .left);
+      is = sym (l .inv .1) ∙ from-end (plateAt (edition1 .width) (start .args .plate .now) .rules) (start .args .name .now) (start .args .most) (l .started)
+          (l .before) (l .at) (done .loop-test .left);
       within = λ e. absurd (false≢true e);
       behind = λ e. absurd (false≢true e);
     })

@@ -143,7 +143,8 @@ shared-slice-read-if4 c = omega arith
 rules-less-2 : tie.Need-rules-less-2 Inv-bytes μ-bytes Inv-rules μ-rules
 rules-less-2 c =
     let at-char = c .before .before .before .before in
-    let e = at-char .before .before .before .before .before in
+    let at-length = at-char .before .before .before in
+    let e = at-length .before .before in
     omega (arith, e .if1 .left)
 
 rules-again-2 : tie.Need-rules-again-2 Inv-bytes μ-bytes Inv-rules μ-rules

@@ -20,7 +20,8 @@ abbrev μ-loop : tie.MeasureT-loop
 
 -- The bar stands before code k, if one must.
 barred-now : (c : tie.Joined1 Inv-loop μ-loop) → (length (c .if1 .out) ≡ length (c .before .before .before .before .args .out .now))
-    × (c .if1 .out ≡ barred (take (c .before .before .loop .k) (rows (c .before .before .before .before .args .t2))) ++ drop (7 * c .before .before .loop .k) (c .before .before .before .before .args .out .now))
+    × (c .if1 .out ≡ barred (take (c .before .before .loop .k) (rows (c .before .before .before .before .args .t2))) ++ drop (7 * c .before .before .loop .k)
+    (c .before .before .before .before .args .out .now))
 barred-now c =
     let o = c .before .before .before .before .args .out .now in
     let bs = c .before .before .before .before .args .t2 in
@@ -59,19 +60,28 @@ element-copy-out-b : tie.Need-element-copy-out-b Inv-loop μ-loop
 element-copy-out-b c = let s = c .before .before .before .before .pre .0 .small in omega arith
 
 sub-put : tie.Need-sub-put Inv-loop μ-loop
-sub-put c = let j = barred-now (c .before .before) .0 in let p = c .before .before .before .before .before .before .pre .1 in omega arith
+sub-put c =
+    let at-back-4 = c .before .before .before .before in
+    let at-pre = at-back-4 .before .before in
+    let j = barred-now (c .before .before) .0 in let p = at-pre .pre .1 in omega arith
 
 part-put-start : tie.Need-part-put-start Inv-loop μ-loop
-part-put-start c = let j = barred-now (c .before .before) .0 in let p = c .before .before .before .before .before .before .pre .1 in omega arith
+part-put-start c =
+    let at-back-4 = c .before .before .before .before in
+    let at-pre = at-back-4 .before .before in
+    let j = barred-now (c .before .before) .0 in let p = at-pre .pre .1 in omega arith
 
 part-put-end : tie.Need-part-put-end Inv-loop μ-loop
 part-put-end c = omega arith
 
 put-requires : tie.Need-put-requires Inv-loop μ-loop
 put-requires c κs =
+    let at-if1 = c .before .before .before in
+    let at-loop = at-if1 .before .before in
+    let at-pre = at-loop .before .before in
     let j = barred-now (c .before .before .before) .0 in
-    let q = c .before .before .before .before .before .before .before .pre .1 in
-    rw (rest (7 * c .before .before .before .before .before .loop .k) (c .before .before .before .if1 .out)) (simp length-drop (omega arith))
+    let q = at-pre .pre .1 in
+    rw (rest (7 * at-loop .loop .k) (at-if1 .if1 .out)) (simp length-drop (omega arith))
 
 add-k : tie.Need-add-k Inv-loop μ-loop
 add-k c = omega arith
@@ -81,21 +91,27 @@ loop-less c = omega arith
 
 loop-again : tie.Need-loop-again Inv-loop μ-loop
 loop-again c =
-    let k = c .before .before .before .before .before .before .before .before .loop .k in
-    let o = c .before .before .before .before .before .before .before .before .before .before .args .out .now in
-    let bs = c .before .before .before .before .before .before .before .before .before .before .args .t2 in
-    let p = c .before .before .before .before .before .before .before .before .before .before .pre in
+    let at-put = c .before .before in
+    let at-before = at-put .before .before .before in
+    let at-if1 = at-before .before in
+    let at-loop-test = at-if1 .before in
+    let at-loop = at-loop-test .before in
+    let at-entry = at-loop .before .before in
+    let k = at-loop .loop .k in
+    let o = at-entry .args .out .now in
+    let bs = at-entry .args .t2 in
+    let p = at-entry .pre in
     let q = p .1 in
-    let t = c .before .before .before .before .before .before .before .loop-test .taken in
+    let t = at-loop-test .loop-test .taken in
     let n = rows-count bs (p .0) in
     let six = rows-six bs (p .0) in
     let some : k < length (rows bs) = omega arith in
     let whole : k + 1 ≤ length (rows bs) = omega arith in
     let fits : 7 * (k + 1) - 1 ≤ length o = omega arith in
-    let lent = c .before .before .before .before .before .before .if1 .out in
+    let lent = at-if1 .if1 .out in
     let e =
-    put-on (rows bs) six k o lent (c .before .before .put .last .0) some (barred-now (c .before .before .before .before .before .before) .1)
-    (c .before .before .put .ensures ∙ ap (λ (d : List ℕ). d ++ drop 6 (take (length lent - 7 * k) (drop (7 * k) lent))) (sym (rows-at bs (p .0) k t))) in
+    put-on (rows bs) six k o lent (at-put .put .last .0) some (barred-now (at-before .before) .1)
+    (at-put .put .ensures ∙ ap (λ (d : List ℕ). d ++ drop 6 (take (length lent - 7 * k) (drop (7 * k) lent))) (sym (rows-at bs (p .0) k t))) in
     (omega arith, as-long (rows bs) six (k + 1) o _ whole fits e, e)
 
 same-length : tie.Need-same-length Inv-loop μ-loop

@@ -38,13 +38,25 @@ returns : tie.Need-returns Inv-loop μ-loop
 returns c = search needs
 
 add-at : tie.Need-add-at Inv-loop μ-loop
-add-at c = omega (arith, lent-length (c .before .before .before .before .before .loop .at) (c .before .before .before .before .before .before .before .before .args .text .now))
+add-at c =
+    let at-back-4 = c .before .before .before .before in
+    let at-loop = at-back-4 .before in
+    let at-entry = at-loop .before .before .before in
+    omega (arith, lent-length (at-loop .loop .at) (at-entry .args .text .now))
 
 loop-less : tie.Need-loop-less Inv-loop μ-loop
-loop-less c = omega (arith, lent-length (c .before .before .before .before .before .loop .at) (c .before .before .before .before .before .before .before .before .args .text .now))
+loop-less c =
+    let at-back-4 = c .before .before .before .before in
+    let at-loop = at-back-4 .before in
+    let at-entry = at-loop .before .before .before in
+    omega (arith, lent-length (at-loop .loop .at) (at-entry .args .text .now))
 
 loop-again : tie.Need-loop-again Inv-loop μ-loop
-loop-again c = omega (arith, lent-length (c .before .before .before .before .before .loop .at) (c .before .before .before .before .before .before .before .before .args .text .now))
+loop-again c =
+    let at-back-4 = c .before .before .before .before in
+    let at-loop = at-back-4 .before in
+    let at-entry = at-loop .before .before .before in
+    omega (arith, lent-length (at-loop .loop .at) (at-entry .args .text .now))
 
 returns-2 : tie.Need-returns-2 Inv-loop μ-loop
 returns-2 c = search needs

@@ -1,25 +1,25 @@
 -- `show_item` meets its contract. In each arm `item` promises that the item lies within the rest. Assumes nothing.
+use mathlib.Core.Path.{_≡_}
 use borrow.Author.Needs.{needs}
 use lib.ListN.{length}
 use Rattle.laws.proofs.Parts.{known}
 use Rattle.rule_text.specs.Answers.{Lies}
+use Rattle.rule_text.specs.declared.Entry.{Entry}
 use Rattle.plates_run.proofs.items.show_item.Statement.{statement}
 use Rattle.plates_run.proofs.items.show_item.Tie as tie
+
+-- What is known of the item in an arm.
+lies : (c : tie.After-item) (e : Entry) → c .item .result ≡ e → Lies (length (c .before .before .args .rest .now)) e
+lies c e is = known (Lies (length (c .before .before .args .rest .now))) (c .item .ensures) is .1
 
 item-requires : tie.Need-item-requires
 item-requires c κs = search needs
 
-enum-known-pattern : tie.Need-enum-known-pattern
-enum-known-pattern c = search needs
+enum-known-four : tie.Need-enum-known-four
+enum-known-four c = search needs
 
 rule-requires : tie.Need-rule-requires
 rule-requires c κs = search needs
-
-spans-requires : tie.Need-spans-requires
-spans-requires c κs = search needs
-
-spans-requires-2 : tie.Need-spans-requires-2
-spans-requires-2 c κs = search needs
 
 enum-known-key : tie.Need-enum-known-key
 enum-known-key c = search needs
@@ -46,16 +46,16 @@ unknown-requires : tie.Need-unknown-requires
 unknown-requires c κs = search needs
 
 returns : tie.Need-returns
-returns c = known (Lies (length (c .before .before .before .before .before .before .before .before .args .rest .now))) (c .before .before .before .before .before .before .item .ensures) (c .before .before .before .before .pattern .given .1) .1 .8
+returns c = let bound = c .before .before in lies (bound .before .before) _ (bound .four .given .1) .within
 
 returns-2 : tie.Need-returns-2
-returns-2 c = known (Lies (length (c .before .before .before .before .before .before .args .rest .now))) (c .before .before .before .before .item .ensures) (c .before .before .key .given .1) .1 .0
+returns-2 c = let bound = c .before .before in lies (bound .before .before) _ (bound .key .given .1) .within
 
 returns-3 : tie.Need-returns-3
-returns-3 c = known (Lies (length (c .before .before .before .before .before .before .args .rest .now))) (c .before .before .before .before .item .ensures) (c .before .before .next .given .1) .1 .0
+returns-3 c = let bound = c .before .before in lies (bound .before .before) _ (bound .next .given .1) .0
 
 returns-4 : tie.Need-returns-4
-returns-4 c = known (Lies (length (c .before .before .before .before .before .before .args .rest .now))) (c .before .before .before .before .item .ensures) (c .before .before .next2 .given .1) .1 .1
+returns-4 c = let bound = c .before .before in lies (bound .before .before) _ (bound .next2 .given .1) .1
 
 returns-5 : tie.Need-returns-5
 returns-5 c = search needs
@@ -65,10 +65,8 @@ show-item-spec =
     tie.close
     (tie.spec
     item-requires
-    enum-known-pattern
+    enum-known-four
     rule-requires
-    spans-requires
-    spans-requires-2
     enum-known-key
     folding-requires
     enum-known-next

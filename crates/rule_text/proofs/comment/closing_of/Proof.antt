@@ -25,11 +25,13 @@ pair-at-requires c κs = omega arith
 
 returns : tie.Need-returns Inv-loop μ-loop
 returns c =
-    let l = c .before .before .before .before .before .args .rest .now in
-    let i = c .before .before .before .loop .i in
+    let at-loop = c .before .before .before in
+    let at-entry = at-loop .before .before in
+    let l = at-entry .args .rest .now in
+    let i = at-loop .loop .i in
     let h : i < length l = omega arith in
     let e = told (c .before .pair-at .ensures) (c .if1 .taken) in
-    (sym (c .before .before .before .loop .inv .1 ∙ closing-hit l i h e), pair-within l i star slash (omega arith) e)
+    (sym (at-loop .loop .inv .1 ∙ closing-hit l i h e), pair-within l i star slash (omega arith) e)
 
 add-i : tie.Need-add-i Inv-loop μ-loop
 add-i c = omega arith
@@ -39,10 +41,12 @@ loop-less c = omega arith
 
 loop-again : tie.Need-loop-again Inv-loop μ-loop
 loop-again c =
-    let l = c .before .before .before .before .before .args .rest .now in
-    let i = c .before .before .before .loop .i in
+    let at-loop = c .before .before .before in
+    let at-entry = at-loop .before .before in
+    let l = at-entry .args .rest .now in
+    let i = at-loop .loop .i in
     let h : i < length l = omega arith in
-    (omega arith, c .before .before .before .loop .inv .1 ∙ closing-step l i h (told (c .before .pair-at .ensures) (c .if1 .left)))
+    (omega arith, at-loop .loop .inv .1 ∙ closing-step l i h (told (c .before .pair-at .ensures) (c .if1 .left)))
 
 returns-2 : tie.Need-returns-2 Inv-loop μ-loop
 returns-2 c =

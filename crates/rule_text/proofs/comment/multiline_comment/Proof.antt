@@ -31,7 +31,7 @@ two : (c : tie.Else1) → 2 ≤ length (text c)
 two c = let w = pair-within (text c) 0 slash star (omega arith) (opened c) in omega (arith, w)
 
 abbrev start : tie.After-known-told → tie.Else1
-start c = c .before .before .before .before .before
+start c = let at-back-4 = c .before .before .before .before in at-back-4 .before
 
 abbrev inner : tie.After-known-told → ℕ
 inner c = c .before .n .given .0 .0

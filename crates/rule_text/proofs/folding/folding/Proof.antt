@@ -7,8 +7,8 @@ use lib.ListN.{length, getD}
 use Rattle.laws.proofs.Parts.{known, within}
 use Rattle.rule_text.specs.Forms.{equals, letterAt}
 use Rattle.rule_text.specs.Answers.{From, Reads}
-use Rattle.rule_text.specs.declared.Letter.{Letter}
-use Rattle.rule_text.specs.declared.Letter.the-variants.{Is}
+use Rattle.rule_text.specs.declared.Symbol.{Symbol}
+use Rattle.rule_text.specs.declared.Symbol.the-variants.{Is}
 use Rattle.rule_text.proofs.Folds.{none-1, none-2, none-3, none-4, folds, folds-pairs}
 use borrow.Author.Needs.{needs}
 use Rattle.rule_text.proofs.folding.folding.Statement.{statement}
@@ -24,15 +24,21 @@ enum-told : tie.Need-enum-told
 enum-told c = search needs
 
 abbrev text : (c : tie.After-known-told) → List ℕ
-text c = c .before .before .before .before .before .args .rest .now
+text c =
+    let at-back-4 = c .before .before .before .before in
+    let at-entry = at-back-4 .before in
+    at-entry .args .rest .now
 
 abbrev back : tie.After-known-told2 → tie.After-known-told
-back c = c .before .before .before .before .before .before
+back c =
+    let at-back-4 = c .before .before .before .before in
+    let at-before = at-back-4 .before in
+    at-before .before
 
 abbrev sign-at : tie.After-known-told → ℕ
 sign-at c = c .before .key .given .0 .1 .0
 
-abbrev Found : List ℕ → ℕ → Letter → Type 0
+abbrev Found : List ℕ → ℕ → Symbol → Type 0
 Found l at r = (letterAt l at ≡ r) × Reads at (length l) r
 
 key : (c : tie.After-known-told) → Found (text c) 0 (Is (c .before .key .given .0 .0) (sign-at c))
@@ -67,11 +73,12 @@ enum-told-2 c = search needs
 
 returns-3 : tie.Need-returns-3
 returns-3 c =
-    let k = c .before .before .before .before .before in
+    let at-back-4 = c .before .before .before .before in
+    let k = at-back-4 .before in
     (sym (none-3 (text k) (key k .0) (sign (c .before .before .before)) (sym (c .before .before .letter-at2 .ensures .0) ∙ c .enum-told2 .given .1)), tt)
 
 line-at-requires : tie.Need-line-at-requires
-line-at-requires c κs = target c .1 .1
+line-at-requires c κs = target c .1 .within
 
 enum-known-next : tie.Need-enum-known-next
 enum-known-next c = search needs

@@ -18,10 +18,16 @@ enum-known-c : tie.Need-enum-known-c
 enum-known-c c = search needs
 
 abbrev text : (c : tie.After-known-told) → List ℕ
-text c = c .before .before .before .before .before .args .rest .now
+text c =
+    let at-back-4 = c .before .before .before .before in
+    let at-entry = at-back-4 .before in
+    at-entry .args .rest .now
 
 abbrev place : (c : tie.After-known-told) → ℕ
-place c = c .before .before .before .before .before .args .at
+place c =
+    let at-back-4 = c .before .before .before .before in
+    let at-entry = at-back-4 .before in
+    at-entry .args .at
 
 found : (c : tie.After-known-told) → Reaches (place c) (length (text c)) (One (c .before .c .given .0 .0) (c .before .c .given .0 .1 .0))
 found c = known (Reaches (place c) (length (text c))) (c .before .before .before .char-at .ensures) (c .before .c .given .1) .1

@@ -11,8 +11,8 @@ use Rattle.rule_text.proofs.item.item.Tie as tie
 quadruplet-requires : tie.Need-quadruplet-requires
 quadruplet-requires c κs = search needs
 
-enum-known-pattern : tie.Need-enum-known-pattern
-enum-known-pattern c = search needs
+enum-known-four : tie.Need-enum-known-four
+enum-known-four c = search needs
 
 enum-told : tie.Need-enum-told
 enum-told c = search needs
@@ -22,16 +22,20 @@ no-rule-requires c κs = search needs
 
 returns : tie.Need-returns
 returns c =
-    let e = sym (c .before .before .before .quadruplet .ensures .0) ∙ c .before .enum-told .given .1 in
-    (c .no-rule .ensures .0 ∙ sym (from-rule (c .before .before .before .before .before .args .rest .now) e), c .no-rule .ensures .1)
+    let at-quadruplet = c .before .before .before in
+    let at-entry = at-quadruplet .before .before in
+    let e = sym (at-quadruplet .quadruplet .ensures .0) ∙ c .before .enum-told .given .1 in
+    (c .no-rule .ensures .0 ∙ sym (from-rule (at-entry .args .rest .now) e), c .no-rule .ensures .1)
 
 returns-2 : tie.Need-returns-2
 returns-2 c =
-    let l = c .before .before .before .before .before .args .rest .now in
-    let e = known (HoldsFour (length l)) (c .before .before .before .quadruplet .ensures) (c .before .pattern .given .1) in
+    let at-quadruplet = c .before .before .before in
+    let at-entry = at-quadruplet .before .before in
+    let l = at-entry .args .rest .now in
+    let e = known (HoldsFour (length l)) (at-quadruplet .quadruplet .ensures) (c .before .four .given .1) in
     (sym (from-rule l (e .0)), e .1)
 
 pub item-spec : {M : Type 1} → statement M
 item-spec =
     tie.close
-    (tie.spec quadruplet-requires enum-known-pattern enum-told no-rule-requires returns returns-2)
+    (tie.spec quadruplet-requires enum-known-four enum-told no-rule-requires returns returns-2)

@@ -4,7 +4,8 @@ use mathlib.Core.List.{List}
 use Prim.Native.Nat.{ℕ, _+_}
 use native.Mathlib.Omega.{arith}
 use lib.Seq.{take-all, length-take-le}
-use Rattle.rule_text.specs.Forms.{newline, count}
+use Rattle.laws.specs.Lists.{countOf}
+use Rattle.rule_text.specs.Forms.{newline}
 use borrow.Author.Needs.{needs}
 use Rattle.rule_text.proofs.item.line_of.Statement.{statement}
 use Rattle.rule_text.proofs.item.line_of.Tie as tie
@@ -18,7 +19,7 @@ add-result c = search needs
 returns : tie.Need-returns
 returns c =
     let a = c .before .before .before .args in
-    ap (λ (n : ℕ). 1 + n) (c .count-of .ensures .0 ∙ ap (count newline) (sym (take-all (a .at) (a .text .now) (c .before .if1 .taken))))
+    ap (λ (n : ℕ). 1 + n) (c .count-of .ensures .0 ∙ ap (countOf newline) (sym (take-all (a .at) (a .text .now) (c .before .if1 .taken))))
 
 slice-aggregate-count-of : tie.Need-slice-aggregate-count-of
 slice-aggregate-count-of c =

@@ -22,13 +22,17 @@ no-line-end-requires c κs = search needs
 
 returns : tie.Need-returns
 returns c =
-    let e = sym (c .before .before .before .end-of-line .ensures .0) ∙ c .before .enum-told .given .1 in
-    (c .no-line-end .ensures .0 ∙ sym (from-line-end (c .before .before .before .before .before .args .rest .now) e), c .no-line-end .ensures .1)
+    let at-end-of-line = c .before .before .before in
+    let at-entry = at-end-of-line .before .before in
+    let e = sym (at-end-of-line .end-of-line .ensures .0) ∙ c .before .enum-told .given .1 in
+    (c .no-line-end .ensures .0 ∙ sym (from-line-end (at-entry .args .rest .now) e), c .no-line-end .ensures .1)
 
 returns-2 : tie.Need-returns-2
 returns-2 c =
-    let l = c .before .before .before .before .before .args .rest .now in
-    let e = known (EndsLine (length l)) (c .before .before .before .end-of-line .ensures) (c .before .next .given .1) in
+    let at-end-of-line = c .before .before .before in
+    let at-entry = at-end-of-line .before .before in
+    let l = at-entry .args .rest .now in
+    let e = known (EndsLine (length l)) (at-end-of-line .end-of-line .ensures) (c .before .next .given .1) in
     (sym (from-line-end l (e .0)), e .1)
 
 pub no-folding-spec : {M : Type 1} → statement M

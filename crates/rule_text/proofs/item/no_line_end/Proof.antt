@@ -24,8 +24,10 @@ returns c =
 
 returns-2 : tie.Need-returns-2
 returns-2 c =
-    let l = c .before .before .before .before .before .args .rest .now in
-    let e = known (Comments (length l)) (c .before .before .before .multiline-comment .ensures) (c .before .next .given .1) in
+    let at-multiline-comment = c .before .before .before in
+    let at-entry = at-multiline-comment .before .before in
+    let l = at-entry .args .rest .now in
+    let e = known (Comments (length l)) (at-multiline-comment .multiline-comment .ensures) (c .before .next .given .1) in
     (sym (from-comment l (e .0)), e .1)
 
 pub no-line-end-spec : {M : Type 1} → statement M

@@ -22,13 +22,17 @@ no-folding-requires c κs = search needs
 
 returns : tie.Need-returns
 returns c =
-    let e = sym (c .before .before .before .folding .ensures .0) ∙ c .before .enum-told .given .1 in
-    (c .no-folding .ensures .0 ∙ sym (from-folding (c .before .before .before .before .before .args .rest .now) e), c .no-folding .ensures .1)
+    let at-folding = c .before .before .before in
+    let at-entry = at-folding .before .before in
+    let e = sym (at-folding .folding .ensures .0) ∙ c .before .enum-told .given .1 in
+    (c .no-folding .ensures .0 ∙ sym (from-folding (at-entry .args .rest .now) e), c .no-folding .ensures .1)
 
 returns-2 : tie.Need-returns-2
 returns-2 c =
-    let l = c .before .before .before .before .before .args .rest .now in
-    let e = known (Pairs (length l)) (c .before .before .before .folding .ensures) (c .before .key .given .1) in
+    let at-folding = c .before .before .before in
+    let at-entry = at-folding .before .before in
+    let l = at-entry .args .rest .now in
+    let e = known (Pairs (length l)) (at-folding .folding .ensures) (c .before .key .given .1) in
     (sym (from-folding l (e .0)), e .1)
 
 pub no-rule-spec : {M : Type 1} → statement M

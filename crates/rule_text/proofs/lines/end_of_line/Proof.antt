@@ -47,24 +47,38 @@ enum-told c = search needs
 
 returns : tie.Need-returns
 returns c =
-    let l = c .before .before .before .before .before .before .before .before .args .rest .now in
-    let n = c .before .before .before .before .before .before .count-blanks in
-    let m = c .before .before .before .before .eol-comment in
+    let at-eol-comment = c .before .before .before .before in
+    let at-count-blanks = at-eol-comment .before .before in
+    let at-entry = at-count-blanks .before .before in
+    let l = at-entry .args .rest .now in
+    let n = at-count-blanks .count-blanks in
+    let m = at-eol-comment .eol-comment in
     let k = c .before .before .ending-of in
     (line-none l (n .result) (m .result) (k .result) (n .ensures .0) (m .ensures .0) (k .ensures .0) (c .enum-told .given .1), tt)
 
 abbrev text : (c : tie.After-known-told) → List ℕ
-text c = c .before .before .before .before .before .before .before .before .before .args .rest .now
+text c =
+    let at-back-4 = c .before .before .before .before in
+    let at-back-8 = at-back-4 .before .before .before .before in
+    let at-entry = at-back-8 .before in
+    at-entry .args .rest .now
 
 abbrev place : (c : tie.After-known-told) → ℕ
-place c = c .before .before .before .before .before .before .before .count-blanks .result + (c .before .before .before .before .before .eol-comment .result + c .before .next .given .0 .0)
+place c =
+    let at-back-4 = c .before .before .before .before in
+    let at-eol-comment = at-back-4 .before in
+    let at-count-blanks = at-eol-comment .before .before in
+    at-count-blanks .count-blanks .result + (at-eol-comment .eol-comment .result + c .before .next .given .0 .0)
 
 reach : (c : tie.After-known-told) → EndsLine (length (text c)) (To (place c))
 reach c =
+    let at-ending-of = c .before .before .before in
+    let at-eol-comment = at-ending-of .before .before in
+    let at-count-blanks = at-eol-comment .before .before in
     let l = text c in
-    let n = c .before .before .before .before .before .before .before .count-blanks in
-    let m = c .before .before .before .before .before .eol-comment in
-    let k = c .before .before .before .ending-of in
+    let n = at-count-blanks .count-blanks in
+    let m = at-eol-comment .eol-comment in
+    let k = at-ending-of .ending-of in
     line-ends l (n .result) (m .result) (c .before .next .given .0 .0) (n .ensures .1) (m .ensures .1)
     (known (EndsLine (length (lent (m .result) (lent (n .result) l)))) (k .ensures) (c .before .next .given .1) .1)
 
@@ -76,9 +90,12 @@ add-t13 c = let w = reach c .0 in omega arith
 
 returns-2 : tie.Need-returns-2
 returns-2 c =
-    let n = c .before .before .before .before .before .before .before .count-blanks in
-    let m = c .before .before .before .before .before .eol-comment in
-    let k = c .before .before .before .ending-of in
+    let at-ending-of = c .before .before .before in
+    let at-eol-comment = at-ending-of .before .before in
+    let at-count-blanks = at-eol-comment .before .before in
+    let n = at-count-blanks .count-blanks in
+    let m = at-eol-comment .eol-comment in
+    let k = at-ending-of .ending-of in
     let v = c .before .next .given in
     (line-to (text c) (n .result) (m .result) (k .result) (n .ensures .0) (m .ensures .0) (k .ensures .0) (v .0 .0) (v .1), reach c)
 

@@ -25,15 +25,19 @@ pair-at-requires c κs = search needs
 
 returns-3 : tie.Need-returns-3
 returns-3 c =
-    let l = c .before .before .before .before .before .before .args .rest .now in
+    let at-if1 = c .before .before .before .before in
+    let at-entry = at-if1 .before .before in
+    let l = at-entry .args .rest .now in
     let e = told (c .before .pair-at .ensures) (c .if3 .taken) in
     let w = pair-within l 0 return newline (omega arith) e in
-    (sym (ending-return l (c .before .before .before .before .if1 .left) (c .before .before .if2 .left) e), (omega arith, λ h. omega arith))
+    (sym (ending-return l (at-if1 .if1 .left) (c .before .before .if2 .left) e), (omega arith, λ h. omega arith))
 
 returns-4 : tie.Need-returns-4
 returns-4 c =
-    let l = c .before .before .before .before .before .before .args .rest .now in
-    (sym (ending-none l (c .before .before .before .before .if1 .left) (c .before .before .if2 .left) (told (c .before .pair-at .ensures) (c .if3 .left))), tt)
+    let at-if1 = c .before .before .before .before in
+    let at-entry = at-if1 .before .before in
+    let l = at-entry .args .rest .now in
+    (sym (ending-none l (at-if1 .if1 .left) (c .before .before .if2 .left) (told (c .before .pair-at .ensures) (c .if3 .left))), tt)
 
 pub ending-of-spec : {M : Type 1} → statement M
 ending-of-spec =

@@ -31,20 +31,30 @@ enum-told c = search needs
 
 returns : tie.Need-returns
 returns c =
-    let a = c .before .before .before .before .before .args in
-    let r = c .before .before .end-of-line in
+    let at-end-of-line = c .before .before in
+    let at-entry = at-end-of-line .before .before .before in
+    let a = at-entry .args in
+    let r = at-end-of-line .end-of-line in
     (at-none (a .rest .now) (a .at) (r .result) (r .ensures .0) (c .enum-told .given .1), tt)
 
 abbrev text : (c : tie.After-known-told) → List ℕ
-text c = c .before .before .before .before .before .before .args .rest .now
+text c =
+    let at-back-4 = c .before .before .before .before in
+    let at-entry = at-back-4 .before .before in
+    at-entry .args .rest .now
 
 abbrev place : (c : tie.After-known-told) → ℕ
-place c = c .before .before .before .before .before .before .args .at
+place c =
+    let at-back-4 = c .before .before .before .before in
+    let at-entry = at-back-4 .before .before in
+    at-entry .args .at
 
 reach : (c : tie.After-known-told) → From (place c) (length (text c)) (To (place c + c .before .next .given .0 .0))
 reach c =
+    let at-end-of-line = c .before .before .before in
+    let at-pre = at-end-of-line .before .before .before in
     let v = c .before .next .given in
-    at-from (text c) (place c) (v .0 .0) (c .before .before .before .before .before .before .pre) (known (EndsLine (length (lent (place c) (text c)))) (c .before .before .before .end-of-line .ensures) (v .1) .1)
+    at-from (text c) (place c) (v .0 .0) (at-pre .pre) (known (EndsLine (length (lent (place c) (text c)))) (at-end-of-line .end-of-line .ensures) (v .1) .1)
 
 add-t6 : tie.Need-add-t6
 add-t6 c = let w = reach c .1 in omega arith

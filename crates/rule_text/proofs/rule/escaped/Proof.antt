@@ -16,7 +16,7 @@ returns c =
     let l = c .before .before .before .args .rest .now in
     let e = sym (c .before .byte .ensures) ∙ c .if1 .taken in
     let w = within l 3 quote (omega arith) e in
-    (sym (escaped-held l e), (omega arith, omega arith, omega arith, omega arith, omega arith))
+    (sym (escaped-held l e), record { after = omega arith; ordered = omega arith; closed = omega arith; within = omega arith; some = omega arith })
 
 returns-2 : tie.Need-returns-2
 returns-2 c = (sym (escaped-none (c .before .before .before .args .rest .now) (λ e. c .if1 .left (c .before .byte .ensures ∙ e))), tt)

@@ -27,16 +27,23 @@ escaped-requires c κs = search needs
 
 returns-2 : tie.Need-returns-2
 returns-2 c =
-    let e = told (c .before .before .pair-at .ensures) (c .before .if2 .taken) in
-    (c .escaped .ensures .0 ∙ sym (part-escaped (c .before .before .before .before .before .before .args .rest .now) (opened (c .before .before .before)) e), c .escaped .ensures .1)
+    let at-pair-at = c .before .before in
+    let at-entry = at-pair-at .before .before .before .before in
+    let e = told (at-pair-at .pair-at .ensures) (c .before .if2 .taken) in
+    (c .escaped .ensures .0 ∙ sym (part-escaped (at-entry .args .rest .now) (opened (at-pair-at .before)) e), c .escaped .ensures .1)
 
 plain-requires : tie.Need-plain-requires
-plain-requires c κs = within (c .before .before .before .before .before .args .rest .now) 0 quote (omega arith) (opened (c .before .before))
+plain-requires c κs =
+    let at-back-4 = c .before .before .before .before in
+    let at-entry = at-back-4 .before in
+    within (at-entry .args .rest .now) 0 quote (omega arith) (opened (c .before .before))
 
 returns-3 : tie.Need-returns-3
 returns-3 c =
-    let e = told (c .before .before .pair-at .ensures) (c .before .if2 .left) in
-    (c .plain .ensures .0 ∙ sym (part-plain (c .before .before .before .before .before .before .args .rest .now) (opened (c .before .before .before)) e), c .plain .ensures .1)
+    let at-pair-at = c .before .before in
+    let at-entry = at-pair-at .before .before .before .before in
+    let e = told (at-pair-at .pair-at .ensures) (c .before .if2 .left) in
+    (c .plain .ensures .0 ∙ sym (part-plain (at-entry .args .rest .now) (opened (at-pair-at .before)) e), c .plain .ensures .1)
 
 pub part-spec : {M : Type 1} → statement M
 part-spec =

@@ -53,51 +53,75 @@ enum-told c = search needs
 
 returns-2 : tie.Need-returns-2
 returns-2 c =
-    let a = c .before .before .before .before .before .before .before .before .args in
-    let n = c .before .before .before .before .before .count-blanks in
+    let at-if1 = c .before .before .before .before in
+    let at-count-blanks = at-if1 .before in
+    let at-entry = at-count-blanks .before .before .before in
+    let a = at-entry .args in
+    let n = at-count-blanks .count-blanks in
     let r = c .before .before .part in
-    (at-none (a .rest .now) (a .at) (n .result) (n .ensures .0) (c .before .before .before .before .if1 .left) (r .result) (r .ensures .0) (c .enum-told .given .1), tt)
+    (at-none (a .rest .now) (a .at) (n .result) (n .ensures .0) (at-if1 .if1 .left) (r .result) (r .ensures .0) (c .enum-told .given .1), tt)
 
 abbrev text : (c : tie.After-known-told) → List ℕ
-text c = c .before .before .before .before .before .before .before .before .before .args .rest .now
+text c =
+    let at-back-4 = c .before .before .before .before in
+    let at-back-8 = at-back-4 .before .before .before .before in
+    let at-entry = at-back-8 .before in
+    at-entry .args .rest .now
+
+abbrev place : (c : tie.After-known-told) → ℕ
+place c =
+    let at-back-4 = c .before .before .before .before in
+    let at-back-8 = at-back-4 .before .before .before .before in
+    at-back-8 .before .args .at
 
 abbrev from : (c : tie.After-known-told) → ℕ
-from c = c .before .before .before .before .before .before .before .before .before .args .at + c .before .before .before .before .before .before .count-blanks .result
+from c =
+    let at-back-4 = c .before .before .before .before in
+    let at-count-blanks = at-back-4 .before .before in
+    let at-entry = at-count-blanks .before .before .before in
+    at-entry .args .at + at-count-blanks .count-blanks .result
 
 abbrev held : (c : tie.After-known-told) → Quoted
 held c = let v = c .before .start .given in Held (from c + v .0 .0) (from c + v .0 .1 .0) (from c + v .0 .1 .1 .0)
 
-reach : (c : tie.After-known-told) → Holds (c .before .before .before .before .before .before .before .before .before .args .at) (length (text c)) (held c)
+reach : (c : tie.After-known-told) → Holds (place c) (length (text c)) (held c)
 reach c =
-    let at = c .before .before .before .before .before .before .before .before .before .args .at in
-    let n = c .before .before .before .before .before .before .count-blanks in
+    let at-part = c .before .before .before in
+    let at-count-blanks = at-part .before .before .before in
+    let at-entry = at-count-blanks .before .before .before in
+    let at = at-entry .args .at in
+    let n = at-count-blanks .count-blanks in
     let v = c .before .start .given in
-    at-holds (text c) at (n .result) (v .0 .0) (v .0 .1 .0) (v .0 .1 .1 .0) (c .before .before .before .before .before .before .before .before .before .pre) (n .ensures .1)
-    (known (Holds 0 (length (lent (at + n .result) (text c)))) (c .before .before .before .part .ensures) (v .1) .1)
+    at-holds (text c) at (n .result) (v .0 .0) (v .0 .1 .0) (v .0 .1 .1 .0) (at-entry .pre) (n .ensures .1)
+    (known (Holds 0 (length (lent (at + n .result) (text c)))) (at-part .part .ensures) (v .1) .1)
 
 add-t9 : tie.Need-add-t9
 add-t9 c =
     let w = reach c in
-    let x = w .1 in
-    let y = w .2 in
-    let z = w .3 in omega arith
+    let x = w .ordered in
+    let y = w .closed in
+    let z = w .within in omega arith
 
 add-t17 : tie.Need-add-t17
 add-t17 c =
     let w = reach c in
-    let y = w .2 in
-    let z = w .3 in omega arith
+    let y = w .closed in
+    let z = w .within in omega arith
 
 add-t18 : tie.Need-add-t18
-add-t18 c = let z = reach c .3 in omega arith
+add-t18 c = let z = reach c .within in omega arith
 
 returns-3 : tie.Need-returns-3
 returns-3 c =
-    let at = c .before .before .before .before .before .before .before .before .before .args .at in
-    let n = c .before .before .before .before .before .before .count-blanks in
-    let r = c .before .before .before .part in
+    let at-part = c .before .before .before in
+    let at-if1 = at-part .before .before in
+    let at-count-blanks = at-if1 .before in
+    let at-entry = at-count-blanks .before .before .before in
+    let at = at-entry .args .at in
+    let n = at-count-blanks .count-blanks in
+    let r = at-part .part in
     let v = c .before .start .given in
-    (at-held (text c) at (n .result) (n .ensures .0) (c .before .before .before .before .before .if1 .left) (r .result) (r .ensures .0) (v .0 .0) (v .0 .1 .0) (v .0 .1 .1 .0) (v .1), reach c)
+    (at-held (text c) at (n .result) (n .ensures .0) (at-if1 .if1 .left) (r .result) (r .ensures .0) (v .0 .0) (v .0 .1 .0) (v .0 .1 .1 .0) (v .1), reach c)
 
 pub part-at-spec : {M : Type 1} → statement M
 part-at-spec =

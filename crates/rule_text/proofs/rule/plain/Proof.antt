@@ -26,8 +26,11 @@ add-t9 c = search needs
 
 returns : tie.Need-returns
 returns c =
-    let n = c .before .count-until in
-    (sym (plain-held (c .before .before .before .before .args .rest .now) (n .result) (n .ensures .0) (c .if1 .taken)), (omega arith, omega arith, omega arith, omega arith, omega arith))
+    let n = c .before .count-until in (
+      sym (plain-held (c .before .before .before .before .args .rest .now) (n .result) (n .ensures .0)
+          (c .if1 .taken)),
+      record { after = omega arith; ordered = omega arith; closed = omega arith; within = omega arith; some = omega arith },
+    )
 
 returns-2 : tie.Need-returns-2
 returns-2 c =

@@ -23,7 +23,10 @@ enum-told : tie.Need-enum-told
 enum-told c = search needs
 
 abbrev text : (c : tie.After-known-told) → List ℕ
-text c = c .before .before .before .before .before .args .rest .now
+text c =
+    let at-back-4 = c .before .before .before .before in
+    let at-entry = at-back-4 .before in
+    at-entry .args .rest .now
 
 abbrev Found : List ℕ → ℕ → Quoted → Quoted → Type 0
 Found l at wanted r = (wanted ≡ r) × Holds at (length l) r
@@ -77,7 +80,7 @@ returns : tie.Need-returns
 returns c = (sym (none-1 (c .before .before .before .before .args .rest .now) (sym (c .before .before .part .ensures .0) ∙ c .enum-told .given .1)), tt)
 
 part-at-requires : tie.Need-part-at-requires
-part-at-requires c κs = first c .1 .3
+part-at-requires c κs = first c .1 .within
 
 enum-known-start-2 : tie.Need-enum-known-start-2
 enum-known-start-2 c = search needs
@@ -91,7 +94,7 @@ returns-2 c =
     (sym (none-2 (text p) (first p .0) (sym (c .before .before .part-at .ensures .0) ∙ c .enum-told2 .given .1)), tt)
 
 part-at-requires-2 : tie.Need-part-at-requires-2
-part-at-requires-2 c κs = second c .1 .3
+part-at-requires-2 c κs = second c .1 .within
 
 enum-known-start-3 : tie.Need-enum-known-start-3
 enum-known-start-3 c = search needs
@@ -106,7 +109,7 @@ returns-3 c =
     (sym (none-3 (text p) (first p .0) (second s .0) (sym (c .before .before .part-at2 .ensures .0) ∙ c .enum-told3 .given .1)), tt)
 
 part-at-requires-3 : tie.Need-part-at-requires-3
-part-at-requires-3 c κs = third c .1 .3
+part-at-requires-3 c κs = third c .1 .within
 
 enum-known-start-4 : tie.Need-enum-known-start-4
 enum-known-start-4 c = search needs
@@ -122,7 +125,7 @@ returns-4 c =
     (sym (none-4 (text p) (first p .0) (second s .0) (third v .0) (sym (c .before .before .part-at3 .ensures .0) ∙ c .enum-told4 .given .1)), tt)
 
 line-at-requires : tie.Need-line-at-requires
-line-at-requires c κs = fourth c .1 .3
+line-at-requires c κs = fourth c .1 .within
 
 enum-known-behind : tie.Need-enum-known-behind
 enum-known-behind c = search needs

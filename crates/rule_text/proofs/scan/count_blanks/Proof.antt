@@ -29,8 +29,10 @@ is-blank-requires c κs = search needs
 
 returns : tie.Need-returns Inv-loop μ-loop
 returns c =
-    let l = c .before .before .before .before .before .before .args .rest .now in
-    let i = c .before .before .before .before .loop .i in
+    let at-loop = c .before .before .before .before in
+    let at-entry = at-loop .before .before in
+    let l = at-entry .args .rest .now in
+    let i = at-loop .loop .i in
     omega (arith, blanks-stop l i (omega arith) (told (c .before .is-blank .ensures) (not-true (c .before .is-blank .result) (c .if1 .taken))))
 
 add-i : tie.Need-add-i Inv-loop μ-loop
@@ -41,8 +43,10 @@ loop-less c = omega arith
 
 loop-again : tie.Need-loop-again Inv-loop μ-loop
 loop-again c =
-    let l = c .before .before .before .before .before .before .args .rest .now in
-    let i = c .before .before .before .before .loop .i in
+    let at-loop = c .before .before .before .before in
+    let at-entry = at-loop .before .before in
+    let l = at-entry .args .rest .now in
+    let i = at-loop .loop .i in
     omega (arith, blanks-step l i (omega arith) (told (c .before .is-blank .ensures) (not-false (c .before .is-blank .result) (c .if1 .left))))
 
 returns-2 : tie.Need-returns-2 Inv-loop μ-loop

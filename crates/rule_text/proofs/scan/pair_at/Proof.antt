@@ -25,7 +25,9 @@ byte-requires c κs = search needs
 
 returns-3 : tie.Need-returns-3
 returns-3 c =
-    let a = c .before .before .before .before .before .args in
+    let at-back-4 = c .before .before .before .before in
+    let at-entry = at-back-4 .before in
+    let a = at-entry .args in
     pair-first (a .s .now) (a .k) (a .a) (a .b) (c .byte .result) (c .before .if2 .left) (c .byte .ensures)
 
 pub pair-at-spec : {M : Type 1} → statement M

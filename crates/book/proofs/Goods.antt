@@ -1,0 +1,69 @@
+-- A book stays good: a rule without fault whose pattern is text without zero bytes is good, and so is what it is put among; a folding likewise. Assumes nothing.
+use Prim.Native.Nat.{ℕ, _<_, _≤_}
+use mathlib.Core.Path.{_≡_, refl}
+use mathlib.Core.Bool.{Bool, true, _&&_}
+use mathlib.Core.List.{List, []}
+use native.Mathlib.Omega.{arith}
+use borrow.Author.Tests.{ltb-false, leb-true, le-leb}
+use lib.Dec.{ltb, leb, lit<}
+use lib.ListN.{length}
+use Rattle.laws.specs.Lists.{every, splitAt}
+use Rattle.laws.proofs.Tests.{and-true, both-true, is-between}
+use Rattle.laws.proofs.Splits.{one-part}
+use Rattle.chars.specs.Utf8.{isText}
+use Rattle.plate.specs.Plate.{Folding, Rule, edition1, mostFoldings, goodField, nonzeroByte, goodRule, goodFolding, rising, ordered, goodFoldings, goodRules, goodPlate}
+use Rattle.book.specs.Book.{Book, blank, ruleOf, putRule, putFolding, withRule, withFolding, plateOf, fieldFault, ruleFault, foldingFault}
+use Rattle.book.proofs.Faults.{field-fine, not-when, clean}
+use Rattle.book.proofs.Sorted.{put-ordered, put-every, put-length, put-rising, put-each}
+
+-- A field without fault is good.
+field-good : (sep : ℕ) (f : List ℕ) → fieldFault (splitAt sep f) ≡ 0 → goodField (splitAt sep f) ≡ true
+field-good sep f e =
+    let fine = field-fine (splitAt sep f) e in
+    both-true (is-between 1 8 (length (splitAt sep f)) (one-part sep f) (leb-true (length (splitAt sep f)) 8 (fine .0))) (fine .1)
+
+rule-good : (sep : ℕ) (p s v o : List ℕ) (n : ℕ) → (isText p ≡ true) × (every nonzeroByte p ≡ true) → ruleFault (ruleOf sep p s v o) n ≡ 0
+    → (goodRule (ruleOf sep p s v o) ≡ true) × (n < 512)
+rule-good sep p s v o n c e =
+    let k = clean (ruleOf sep p s v o) n e in
+    let filled = k .filled in (
+      both-true (both-true (is-between 1 16 (length p) (omega arith) (k .short)) (both-true (c .1) (c .0)))
+          (both-true (field-good sep s (k .start)) (both-true (field-good sep v (k .vowel)) (field-good sep o (k .other)))),
+      k .few,
+    )
+
+-- its plate obeys the table
+pub record Good (b : Book) : Type 0 where
+  pub rules : goodRules (edition1 .most) (b .rules) ≡ true
+  pub foldings : goodFoldings (b .foldings) ≡ true
+
+pub blank-good : Good blank
+blank-good = record { rules = refl; foldings = refl }
+
+pub plate-good : (flag : Bool) (b : Book) → Good b → goodPlate edition1 (plateOf flag b) ≡ true
+plate-good flag b g = both-true (g .rules) (g .foldings)
+
+pub with-rule-good : (sep : ℕ) (p s v o : List ℕ) (b : Book) → (isText p ≡ true) × (every nonzeroByte p ≡ true)
+    → ruleFault (ruleOf sep p s v o) (length (b .rules)) ≡ 0 → Good b → Good (withRule (ruleOf sep p s v o) b)
+with-rule-good sep p s v o b c e g =
+    let r = ruleOf sep p s v o in
+    let l = b .rules in
+    let k = rule-good sep p s v o (length l) c e in
+    let h = k .1 in
+    let x = and-true (leb (length l) 512) (every goodRule l && ordered l) (g .rules) in
+    let y = and-true (every goodRule l) (ordered l) (x .1) in
+    record {
+      rules =
+          both-true (le-leb (length (putRule r l)) 512 (omega (arith, put-length r l)))
+          (both-true (put-every goodRule r l (k .0) (y .0)) (put-ordered r l (y .1)));
+      foldings = g .foldings;
+    }
+
+pub with-folding-good : (f : Folding) (b : Book) → goodFolding f ≡ true → foldingFault f (b .foldings) ≡ 0 → Good b → Good (withFolding f b)
+with-folding-good f b g e k =
+    let l = b .foldings in
+    let n = length (putFolding f l) in
+    let few = ltb-false mostFoldings n (not-when (ltb mostFoldings n) 8 (lit< tt) e) in
+    let x = and-true (leb (length l) mostFoldings) (every goodFolding l && rising l) (k .foldings) in
+    let y = and-true (every goodFolding l) (rising l) (x .1) in
+    record { rules = k .rules; foldings = both-true (le-leb n 128 few) (both-true (put-each goodFolding f l g (y .0)) (put-rising f l (y .1))) }

@@ -1,0 +1,13 @@
+pub mod Faults
+pub mod Ways
+pub mod Fields
+pub mod Runs
+pub mod Inks
+pub mod Sorted
+pub mod Orders
+pub mod Keys
+pub mod Measures
+pub mod Scripts
+pub mod Noting
+pub mod Goods
+pub mod Only

@@ -1,0 +1,181 @@
+-- What is noted stays what was noted before, with one rule or folding more among it. Assumes nothing.
+use Prim.Native.Nat.{ℕ, _+_, _*_, _<_, _≤_}
+use mathlib.Core.Path.{_≡_, refl, sym, _∙_, ap, subst}
+use mathlib.Core.Bool.{Bool}
+use mathlib.Core.List.{List, [], _∷_, _++_, map}
+use native.Mathlib.Omega.{arith}
+use borrow.Author.Tests.{lt-ltb, le-ltb}
+use lib.ListN.{length, take, drop, length-map}
+use lib.Seq.{length-take-le}
+use Rattle.laws.specs.Lists.{cat}
+use Rattle.plate.specs.Plate.{Folding, Rule, firstCode, rising}
+use Rattle.plate.specs.Written.{ruleBits}
+use Rattle.book.specs.Book.{Book, blank, foldingOf, putRule, putFolding, withRule, withFolding, when, ruleFault, foldingFault}
+use Rattle.book.specs.Sort.{Rising, insert, putPair, foldingIn, AllSmall, PairsHeld, PutIs}
+use Rattle.book.specs.Note.{key, keyOf, placeIn, rulesIn, Sure, AllSure, bookOf, KeysHeld, Kept, noneNoted, flawNumber, ruled, folded, RuleIs, RuleIn, FoldingNoted}
+use Rattle.book.specs.declared.Flaw.{Flaw}
+use Rattle.book.specs.declared.Flaw.the-variants.{TooMany}
+use Rattle.book.specs.declared.Tally.{Tally}
+use Rattle.book.specs.declared.Noted.the-variants as Noted
+use Rattle.book.specs.declared.sort.Put.{Put}
+use Rattle.book.specs.declared.sort.Put.the-variants as Put
+use Rattle.book.specs.declared.note.Judged.the-variants as Judged
+use Rattle.book.proofs.Faults.{clean}
+use Rattle.book.proofs.Measures.{put-bits}
+use Rattle.book.proofs.Sorted.{put-rising}
+use Rattle.book.proofs.Orders.{insert-rising}
+use Rattle.book.proofs.Keys.{key-place, all-later, all-insert, put-view, first-keys, keys-length, put-small, put-folding-view, first-pairs, pairs-length}
+
+-- ---- nothing is noted
+
+pub none-kept : (view : ℕ → Rule) (at : ℕ) (keys foldings : List ℕ) → length keys ≡ 512 → length foldings ≡ 128 → Kept view at noneNoted keys foldings
+none-kept view at keys foldings k f =
+    record {
+      rules = record { few = omega arith; room = k; sorted = tt; fewBits = omega arith };
+      pairs = record { few = omega arith; room = f; small = tt; sorted = refl };
+      sure = tt;
+      bits = refl;
+    }
+
+-- ---- one more
+
+module _ (view : ℕ → Rule) (at : ℕ) (tally : Tally) (keys foldings : List ℕ) (k : Kept view at tally keys foldings) where
+  abbrev book : Book
+  book = bookOf view tally keys foldings
+
+  -- As many rules as are counted.
+  pub rules-counted : length (rulesIn view (take (tally .rules) keys)) ≡ tally .rules
+  rules-counted =
+      let n = k .rules .few in
+      let m = k .rules .room in length-map (take (tally .rules) keys) (λ i. view (placeIn i)) ∙ length-take-le (tally .rules) keys (omega arith)
+
+  -- It stays noted behind a later place.
+  pub kept-later : (at2 : ℕ) → at ≤ at2 → Kept view at2 tally keys foldings
+  kept-later at2 h =
+      record { rules = k .rules; pairs = k .pairs; sure = all-later view at at2 (take (tally .rules) keys) h (k .sure); bits = k .bits }
+
+  -- The rule at the place.
+  module _ (r : Rule) (is : view at ≡ r) (h : at < 65536) (keys′ : List ℕ) (t : Tally) (q : RuleIn r at tally keys keys′ t) where
+    abbrev K : ℕ
+    K = keyOf r at
+
+    placed : placeIn K ≡ at
+    placed = key-place (firstCode r) (length (r .pattern)) at h
+
+    viewed : view (placeIn K) ≡ r
+    viewed = ap view placed ∙ is
+
+    sure-key : Sure view (at + 1) K
+    sure-key =
+        record {
+          is = sym (λ i. keyOf (viewed i) (placed i));
+          before = omega (arith, placed);
+          fine = subst (λ (r : Rule). ruleFault r 0 ≡ 0) (sym viewed) (clean r (tally .rules) (q .fine) .first);
+        }
+
+    fewer : tally .rules < length keys
+    fewer = let n = clean r (tally .rules) (q .fine) .few in let m = k .rules .room in omega arith
+
+    now : take (tally .rules + 1) keys′ ≡ insert K (take (tally .rules) keys)
+    now = first-keys keys keys′ (tally .rules) K fewer (q .keyed)
+
+    noted : rulesIn view (take (tally .rules + 1) keys′) ≡ putRule r (rulesIn view (take (tally .rules) keys))
+    noted =
+        ap (rulesIn view) now ∙ put-view view at K (take (tally .rules) keys) h placed sure-key (k .sure)
+        ∙ ap (λ (r : Rule). putRule r (rulesIn view (take (tally .rules) keys))) viewed
+
+    sums : tally .bits + length (ruleBits r) ≡ length (cat ruleBits (rulesIn view (take (tally .rules + 1) keys′)))
+    sums =
+        ap (λ (n : ℕ). n + length (ruleBits r)) (k .bits)
+        ∙ sym (ap (λ (l : List Rule). length (cat ruleBits l)) noted ∙ put-bits r (rulesIn view (take (tally .rules) keys)))
+
+    held : KeysHeld (ruled tally (length (ruleBits r))) keys′
+    held =
+        let n = clean r (tally .rules) (q .fine) .few in
+        let m = k .rules .fewBits in
+        let few = q .few in
+        record {
+          few = omega arith;
+          room = keys-length keys keys′ (tally .rules) K fewer (q .keyed) ∙ k .rules .room;
+          sorted = subst Rising (sym now) (insert-rising K (take (tally .rules) keys) (k .rules .sorted));
+          fewBits = omega arith;
+        }
+
+    all : AllSure view (at + 1) (take (tally .rules + 1) keys′)
+    all =
+        subst (AllSure view (at + 1)) (sym now)
+        (all-insert view (at + 1) K (take (tally .rules) keys) sure-key (all-later view at (at + 1) (take (tally .rules) keys) (omega arith) (k .sure)))
+
+    pub rule-kept : Kept view (at + 1) t keys′ foldings
+    rule-kept = subst (λ (t : Tally). Kept view (at + 1) t keys′ foldings) (sym (q .told)) (record { rules = held; pairs = k .pairs; sure = all; bits = sums })
+
+    pub rule-noted : bookOf view t keys′ foldings ≡ withRule r (bookOf view tally keys foldings)
+    rule-noted = ap (λ (t : Tally). bookOf view t keys′ foldings) (q .told) ∙ ap (λ (l : List Rule). record { foldings = book .foldings; rules = l }) noted
+
+  -- A folding.
+  module _ (c target : ℕ) (i : c < 2097152) (j : target < 2097152) where
+    abbrev L : List ℕ
+    L = putPair c target (take (tally .foldings) foldings)
+
+    put : map foldingIn L ≡ putFolding (foldingOf c target) (book .foldings)
+    put = put-folding-view c target j (take (tally .foldings) foldings)
+
+    longer : length (putFolding (foldingOf c target) (book .foldings)) ≡ length L
+    longer = ap length (sym put) ∙ length-map L foldingIn
+
+    -- Refusal 8, and none.
+    pub folding-fault : (w : Flaw) (a′ : List ℕ) → FoldingNoted c target tally foldings a′ (Noted.Refused w) → foldingFault (foldingOf c target) (book .foldings) ≡ flawNumber w
+    folding-fault w a′ p = ap (λ (t : Bool). when t 8) (lt-ltb 128 _ (subst (λ (n : ℕ). 128 < n) (sym longer) (p .0))) ∙ sym (p .1)
+
+    module _ (a′ : List ℕ) (t : Tally) (p : FoldingNoted c target tally foldings a′ (Noted.Fine t)) where
+      pub folding-fine : foldingFault (foldingOf c target) (book .foldings) ≡ 0
+      folding-fine = ap (λ (t : Bool). when t 8) (le-ltb 128 _ (subst (λ (n : ℕ). n ≤ 128) (sym longer) (p .0)))
+
+      first : take (length L) a′ ≡ L
+      first = first-pairs c target j foldings a′ (tally .foldings) (length L) refl (p .1)
+
+      held-pairs : PairsHeld (length L) a′
+      held-pairs =
+          let n = p .0 in
+          let m = k .pairs .room in
+          let room : length L ≤ length foldings = omega arith in
+          record {
+            few = p .0;
+            room = pairs-length c target j foldings a′ (tally .foldings) (length L) refl (p .1) room ∙ m;
+            small = subst AllSmall (sym first) (put-small c target j (take (tally .foldings) foldings) i (k .pairs .small));
+            sorted = ap (λ (l : List ℕ). rising (map foldingIn l)) first ∙ ap rising put ∙ put-rising (foldingOf c target) (book .foldings) (k .pairs .sorted);
+          }
+
+      pub folding-kept : Kept view at t keys a′
+      folding-kept =
+          subst (λ (t : Tally). Kept view at t keys a′) (sym (p .2))
+          (record { rules = record { few = k .rules .few; room = k .rules .room; sorted = k .rules .sorted; fewBits = k .rules .fewBits }; pairs = held-pairs; sure = k .sure; bits = k .bits })
+
+      pub folding-noted : bookOf view t keys a′ ≡ withFolding (foldingOf c target) (bookOf view tally keys foldings)
+      folding-noted =
+          ap (λ (t : Tally). bookOf view t keys a′) (p .2) ∙ ap (λ (l : List Folding). record { foldings = l; rules = book .rules }) (ap (map foldingIn) first ∙ put)
+
+-- ---- as the calls tell it
+
+pub entered : (r : Rule) (at : ℕ) (tally : Tally) (keys keys′ : List ℕ) (bits k : ℕ) → RuleIs r (tally .rules) (Judged.Fine bits)
+    → k ≡ keyOf r at → keys′ ≡ insert k (take (tally .rules) keys) ++ drop (tally .rules + 1) keys → RuleIn r at tally keys keys′ (ruled tally bits)
+entered r at tally keys keys′ bits k j e f =
+    record {
+      fine = j .0;
+      few = subst (λ (n : ℕ). n ≤ 793) (j .1) (j .2);
+      keyed = f ∙ ap (λ (k : ℕ). insert k (take (tally .rules) keys) ++ drop (tally .rules + 1) keys) e;
+      told = ap (ruled tally) (j .1);
+    }
+
+module _ {c c2 target target2 : ℕ} (e : c2 ≡ c) (f : target2 ≡ target) (tally : Tally) (a a′ : List ℕ) (r : Put) (p : PutIs c2 target2 (tally .foldings) a a′ r) where
+  as-asked : PutIs c target (tally .foldings) a a′ r
+  as-asked = subst (λ (c : ℕ). PutIs c target (tally .foldings) a a′ r) e (subst (λ (t : ℕ). PutIs c2 t (tally .foldings) a a′ r) f p)
+
+  pub put-now : (n : ℕ) → r ≡ Put.Now n → FoldingNoted c target tally a a′ (Noted.Fine (folded tally n))
+  put-now n is =
+      let q = subst (PutIs c target (tally .foldings) a a′) is as-asked in
+      let L = putPair c target (take (tally .foldings) a) in
+      (subst (λ (m : ℕ). m ≤ 128) (q .0) (q .1), q .2 ∙ ap (λ (m : ℕ). L ++ drop m a) (q .0), ap (folded tally) (q .0))
+
+  pub put-full : r ≡ Put.Full → FoldingNoted c target tally a a′ (Noted.Refused TooMany)
+  put-full is = let q = subst (PutIs c target (tally .foldings) a a′) is as-asked in (q .0, refl, q .1)

@@ -1,0 +1,7 @@
+pub mod Book
+pub mod Field
+pub mod Pen
+pub mod Sort
+pub mod Note
+pub mod Writing
+pub mod Worked

@@ -1,0 +1,109 @@
+-- What is noted: rules and foldings as numbers, and the bits of the rules; and what the functions that note answer. A rule's number holds its place, at which
+-- the driver reads it again: `view` is that reading. Assumes nothing.
+use Prim.Native.Nat.{ℕ, _+_, _-_, _*_, _%_, _<_, _≤_}
+use mathlib.Core.Path.{_≡_}
+use mathlib.Core.List.{List, [], _∷_, _++_, map}
+use lib.ListN.{length, take, drop}
+use Rattle.laws.specs.Lists.{cat}
+use Rattle.plate.specs.Plate.{Rule, firstCode, edition1, mostFoldings}
+use Rattle.plate.specs.Written.{fieldBits, ruleBits}
+use Rattle.book.specs.Book.{Book, fieldFault, ruleFault}
+use Rattle.book.specs.Sort.{Rising, insert, putPair, foldingIn, PairsHeld}
+use Rattle.book.specs.declared.Flaw.{Flaw}
+use Rattle.book.specs.declared.Flaw.the-variants.{EmptyPattern, LongPattern, ManyAlternatives, NotDigits, TooMany}
+use Rattle.book.specs.declared.Tally.{Tally}
+use Rattle.book.specs.declared.Noted.{Noted}
+use Rattle.book.specs.declared.Noted.the-variants as Noted
+use Rattle.book.specs.declared.note.Judged.{Judged}
+use Rattle.book.specs.declared.note.Judged.the-variants as Judged
+
+-- ---- a rule as one number: first code point rising, byte length falling, place rising
+
+abbrev pub key : ℕ → ℕ → ℕ → ℕ
+key c n at = (c * 32 + (16 - n)) * 65536 + at
+
+abbrev pub placeIn : ℕ → ℕ
+placeIn k = k % 65536
+
+abbrev pub keyOf : Rule → ℕ → ℕ
+keyOf r at = key (firstCode r) (length (r .pattern)) at
+
+-- the rules of some numbers, by a reading of places
+abbrev pub rulesIn : (ℕ → Rule) → List ℕ → List Rule
+rulesIn view = map (λ k. view (placeIn k))
+
+-- a number stands for a rule without fault before a place
+pub record Sure (view : ℕ → Rule) (at k : ℕ) : Type 0 where
+  pub is : k ≡ keyOf (view (placeIn k)) (placeIn k)
+  pub before : placeIn k < at
+  pub fine : ruleFault (view (placeIn k)) 0 ≡ 0
+
+abbrev pub AllSure : (ℕ → Rule) → ℕ → List ℕ → Type 0
+AllSure view at [] = Unit {0}
+AllSure view at (k ∷ ks) = Sure view at k × AllSure view at ks
+
+-- ---- the book that is noted
+
+abbrev pub bookOf : (ℕ → Rule) → Tally → List ℕ → List ℕ → Book
+bookOf view tally keys foldings = record { foldings = map foldingIn (take (tally .foldings) foldings); rules = rulesIn view (take (tally .rules) keys) }
+
+-- the numbers of the rules stand in order, and no more bits are counted than so many rules can take
+pub record KeysHeld (tally : Tally) (keys : List ℕ) : Type 0 where
+  pub few : tally .rules ≤ edition1 .most
+  pub room : length keys ≡ edition1 .most
+  pub sorted : Rising (take (tally .rules) keys)
+  pub fewBits : tally .bits ≤ 793 * tally .rules
+
+-- what is noted of the rules before a place, and of foldings
+pub record Kept (view : ℕ → Rule) (at : ℕ) (tally : Tally) (keys foldings : List ℕ) : Type 0 where
+  pub rules : KeysHeld tally keys
+  pub pairs : PairsHeld (tally .foldings) foldings
+  pub sure : AllSure view at (take (tally .rules) keys)
+  pub bits : tally .bits ≡ length (cat ruleBits (rulesIn view (take (tally .rules) keys)))
+
+-- nothing is noted yet
+abbrev pub noneNoted : Tally
+noneNoted = record { rules = 0; foldings = 0; bits = 0 }
+
+-- ---- what the functions answer
+
+-- 01's number for each
+abbrev pub flawNumber : Flaw → ℕ
+flawNumber EmptyPattern = 4
+flawNumber LongPattern = 5
+flawNumber ManyAlternatives = 6
+flawNumber NotDigits = 7
+flawNumber TooMany = 8
+
+abbrev pub FieldIs : List (List ℕ) → Judged → Type 0
+FieldIs f (Judged.Fine bits) = (fieldFault f ≡ 0) × (bits ≡ length (fieldBits f)) × (bits ≤ 220)
+FieldIs f (Judged.Wrong flaw) = fieldFault f ≡ flawNumber flaw
+
+abbrev pub RuleIs : Rule → ℕ → Judged → Type 0
+RuleIs r n (Judged.Fine bits) = (ruleFault r n ≡ 0) × (bits ≡ length (ruleBits r)) × (bits ≤ 793)
+RuleIs r n (Judged.Wrong flaw) = ruleFault r n ≡ flawNumber flaw
+
+-- one rule more, of so many bits
+abbrev pub ruled : Tally → ℕ → Tally
+ruled tally bits = record { rules = tally .rules + 1; foldings = tally .foldings; bits = tally .bits + bits }
+
+-- so many foldings
+abbrev pub folded : Tally → ℕ → Tally
+folded tally n = record { rules = tally .rules; foldings = n; bits = tally .bits }
+
+-- a rule goes in among the others
+pub record RuleIn (r : Rule) (at : ℕ) (tally : Tally) (keys keys′ : List ℕ) (t : Tally) : Type 0 where
+  pub fine : ruleFault r (tally .rules) ≡ 0
+  pub few : length (ruleBits r) ≤ 793
+  pub keyed : keys′ ≡ insert (keyOf r at) (take (tally .rules) keys) ++ drop (tally .rules + 1) keys
+  pub told : t ≡ ruled tally (length (ruleBits r))
+
+abbrev pub RuleNoted : Rule → ℕ → Tally → List ℕ → List ℕ → Noted → Type 0
+RuleNoted r at tally keys keys′ (Noted.Fine t) = RuleIn r at tally keys keys′ t
+RuleNoted r at tally keys keys′ (Noted.Refused flaw) = (ruleFault r (tally .rules) ≡ flawNumber flaw) × (keys′ ≡ keys)
+
+abbrev pub FoldingNoted : ℕ → ℕ → Tally → List ℕ → List ℕ → Noted → Type 0
+FoldingNoted c target tally a a′ (Noted.Fine t) =
+    let put = putPair c target (take (tally .foldings) a) in (length put ≤ mostFoldings) × (a′ ≡ put ++ drop (length put) a) × (t ≡ folded tally (length put))
+FoldingNoted c target tally a a′ (Noted.Refused flaw) =
+    (mostFoldings < length (putPair c target (take (tally .foldings) a))) × (flawNumber flaw ≡ 8) × (a′ ≡ a)

@@ -1,0 +1,53 @@
+// The book: rules and foldings noted in the plate's order, and their plate written. It takes spans of any text and knows no form of text: a driver finds the
+// spans, says which byte splits a field, and gives each rule a place by which it finds it again.
+mod sort; // sort.rt: rules and foldings in the plate's order
+pub mod field; // field.rt: the alternatives of a field
+pub mod note; // note.rt: a rule or a folding noted, or what is wrong with it
+pub mod pen; // pen.rt: bits written one behind the other
+pub mod write; // write.rt: what is noted, as a plate's bits
+
+// The most rules and foldings: so long are the arrays in which they are noted.
+pub const MOST_RULES: usize = 512;
+
+pub const MOST_FOLDINGS: usize = 128;
+
+// A rule's place is below this.
+pub const PLACES: u64 = 65536;
+
+// A folding's target, in 21 bits, is below this.
+const TARGETS: u64 = 2097152;
+
+const LONGEST_PATTERN: usize = 16;
+
+const MOST_ALTERNATIVES: usize = 8;
+
+const MOST_DIGITS: usize = 6;
+
+// A field: how many alternatives it has, or its first fault.
+pub enum Alternatives {
+    Many(usize),
+    TooMany,
+    NotDigits,
+}
+
+// What is wrong with a rule, or with one rule or folding more: 01's refusals 4 to 8.
+pub enum Flaw {
+    EmptyPattern,
+    LongPattern,
+    ManyAlternatives,
+    NotDigits,
+    TooMany,
+}
+
+// What is noted: how many rules and foldings, and the bits of the rules.
+pub struct Tally {
+    pub rules: usize,
+    pub foldings: usize,
+    pub bits: usize,
+}
+
+// What is noted then, or why nothing more is.
+pub enum Noted {
+    Fine(Tally),
+    Refused(Flaw),
+}

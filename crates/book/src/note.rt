@@ -1,0 +1,143 @@
+// A rule or a folding noted among those noted before it, in the plate's order, and the bits of the rules added up, so that nothing can refuse any more when the
+// plate is written; or what is wrong with it, and nothing changes.
+ghost use mathlib.Core.Path.{_≡_};
+ghost use Prim.Native.Nat.{_≤_, _<_};
+ghost use lib.ListN.{length};
+ghost use Rattle.laws.specs.Lists.{splitAt};
+ghost use Rattle.chars.specs.Utf8.{charOf, codeOf};
+ghost use Rattle.book.specs.Book.{ruleOf};
+ghost use Rattle.book.specs.Sort.{PairsHeld};
+ghost use Rattle.book.specs.Note.{key, FieldIs, RuleIs, KeysHeld, RuleNoted, FoldingNoted};
+use super::Alternatives;
+use super::Flaw;
+use super::LONGEST_PATTERN;
+use super::MOST_RULES;
+use super::Noted;
+use super::PLACES;
+use super::Tally;
+use super::field::parse_branch;
+use super::sort::Put;
+use super::sort::insert_key;
+use super::sort::put_folding;
+use chars::Char;
+use chars::utf8::char_at;
+
+// A field or a rule: the bits that it takes on the plate, or its first fault.
+pub enum Judged {
+    Fine(usize),
+    Wrong(Flaw),
+}
+
+// A field: 4 bits, 3 an alternative, 4 a digit.
+fn measure_field(field: &[u8], sep: u8) -> Judged
+    ensures { λ r. ⌜ FieldIs (splitAt sep (now (field .entry))) r ⌝ }
+{
+    match parse_branch(field, sep) {
+        Alternatives::Many(n) => Judged::Fine(4 + 3 * n + 4 * (field.len() + 1 - n)),
+        Alternatives::TooMany => Judged::Wrong(Flaw::ManyAlternatives),
+        Alternatives::NotDigits => Judged::Wrong(Flaw::NotDigits),
+    }
+}
+
+// A rule behind so many others. 01: "4, 5, then the three fields left to right (6 before 7 in each field), then 8."
+fn measure_rule(
+    pattern: &[u8],
+    start: &[u8],
+    vowel: &[u8],
+    other: &[u8],
+    sep: u8,
+    rules: usize,
+) -> Judged
+    ensures { λ r. ⌜ RuleIs (ruleOf sep (now (pattern .entry)) (now (start .entry)) (now (vowel .entry)) (now (other .entry))) rules r ⌝ }
+{
+    if pattern.len() == 0 {
+        return Judged::Wrong(Flaw::EmptyPattern);
+    }
+    if LONGEST_PATTERN < pattern.len() {
+        return Judged::Wrong(Flaw::LongPattern);
+    }
+    let first = measure_field(start, sep);
+    let Judged::Fine(s) = first else {
+        return first;
+    };
+    let second = measure_field(vowel, sep);
+    let Judged::Fine(v) = second else {
+        return second;
+    };
+    let third = measure_field(other, sep);
+    let Judged::Fine(o) = third else {
+        return third;
+    };
+    if MOST_RULES <= rules {
+        return Judged::Wrong(Flaw::TooMany);
+    }
+    Judged::Fine(5 + 8 * pattern.len() + s + v + o)
+}
+
+// The first code point of a pattern, 0 where there is none.
+fn first_code(pattern: &[u8]) -> u32
+    ensures { λ r. ⌜ (r ≡ codeOf (charOf (now (pattern .entry)))) × (r < 0x110000) ⌝ }
+{
+    match char_at(pattern, 0) {
+        Char::One(c, w) => c,
+        Char::Bad => 0,
+        Char::End => 0,
+    }
+}
+
+fn wide(c: u32) -> u64
+    ensures { λ r. ⌜ r ≡ c ⌝ }
+{
+    c as u64
+}
+
+// A rule as one number, so that keys stand as 01 orders rules: "by first code point rising, then byte length falling, then text order".
+fn key_of(pattern: &[u8], at: usize) -> u64
+    requires { ⌜ (length (now pattern) ≤ 16) × (at < 65536) ⌝ }
+    ensures { λ r. ⌜ r ≡ key (codeOf (charOf (now (pattern .entry)))) (length (now (pattern .entry))) at ⌝ }
+{
+    let code = wide(first_code(pattern));
+    (code * 32 + (LONGEST_PATTERN - pattern.len()) as u64) * PLACES + at as u64
+}
+
+// A rule of four parts at a place of the driver's, its fields split at `sep`.
+pub fn note_rule(
+    keys: &mut [u64],
+    tally: Tally,
+    at: usize,
+    pattern: &[u8],
+    start: &[u8],
+    vowel: &[u8],
+    other: &[u8],
+    sep: u8,
+) -> Noted
+    requires { ⌜ KeysHeld tally (now keys) × (at < 65536) ⌝ }
+    ensures { λ r. ⌜ RuleNoted (ruleOf sep (now (pattern .entry)) (now (start .entry)) (now (vowel .entry)) (now (other .entry))) at tally (now (keys .entry)) (now (keys .exit)) r ⌝ }
+{
+    match measure_rule(pattern, start, vowel, other, sep, tally.rules) {
+        Judged::Wrong(flaw) => Noted::Refused(flaw),
+        Judged::Fine(bits) => {
+            insert_key(keys, tally.rules, key_of(pattern, at));
+            Noted::Fine(Tally {
+                rules: tally.rules + 1,
+                foldings: tally.foldings,
+                bits: tally.bits + bits,
+            })
+        }
+    }
+}
+
+// A folding. 01: "A later folding of a key replaces the earlier."
+pub fn note_folding(foldings: &mut [u64], tally: Tally, key: u32, target: u32) -> Noted
+    requires { ⌜ PairsHeld (tally .foldings) (now foldings) × (key < 0x110000) × (target < 0x110000) ⌝ }
+    ensures { λ r. ⌜ FoldingNoted key target tally (now (foldings .entry)) (now (foldings .exit)) r ⌝ }
+{
+    let Put::Now(n) = put_folding(foldings, tally.foldings, wide(key), wide(target)) else {
+        return Noted::Refused(Flaw::TooMany);
+    };
+    Noted::Fine(Tally {
+        rules: tally.rules,
+        foldings: n,
+        bits: tally.bits,
+    })
+}
