@@ -2,15 +2,15 @@
 -- Assumes nothing.
 use Prim.Native.Nat.{ℕ, zero, suc, _+_, _-_, _*_, _/_, _%_, _^_, _<_, _≤_}
 use mathlib.Core.Path.{_≡_, refl, sym, _∙_, ap, ap₂, subst}
-use mathlib.Core.Bool.{Bool, true, false, _&&_, _||_, false≢true}
+use mathlib.Core.Bool.{Bool, true, false, cond, _&&_, _||_, false≢true}
 use mathlib.Core.List.{List, [], _∷_}
 use native.Mathlib.Omega.{arith}
 use lib.Pow.{high, low}
 use lib.Dec.{ltb, leb, eqb}
 use lib.ListN.{length}
-use borrow.Author.Tests.{lt-ltb, le-ltb, le-leb, lt-leb, eq-eqb, ne-eqb}
+use borrow.Author.Tests.{ltb-true, lt-ltb, le-ltb, le-leb, lt-leb, eq-eqb, ne-eqb}
 use Rattle.laws.specs.Lists.{every, between}
-use Rattle.laws.proofs.Tests.{and-true, and-left-false, and-right-false, is-between, above-between, between-true}
+use Rattle.laws.proofs.Tests.{or-false, and-true, and-left-false, and-right-false, is-between, above-between, between-true}
 use Rattle.laws.proofs.Bits.{by-order}
 use Rattle.laws.proofs.Many.{and-holds, and-right-holds, and-swap, and-cross, every-append}
 use Rattle.chars.specs.Utf8.{charOf, codeOf, scalar}
@@ -21,7 +21,7 @@ use Rattle.plate.specs.Plate.{goodFolding, rising, firstCode, ordered}
 use Rattle.plate.specs.Read.{foldingsPlace, many, past, alternativeAt, alternativeEnd, fieldAt, fieldEnd, ruleAt, ruleEnd, foldingAt, foldingEnd, ruleCount, foldingCount, reserved}
 use Rattle.plate.specs.Read.{rulesPlace, plateAt, plateEnd, closed, acceptedIn}
 use Rattle.plate.specs.Answers.{bytesAt, goodText, codeIf, firstOf, stepIf, upTo, lastDigits, alternativeStep, alternativesStep, fieldStep, fieldsStep, seenIf, inOrder}
-use Rattle.plate.specs.Answers.{ruleFits, ruleSeen, orderedBehind, rulesStep, above, foldingsGood, edition}
+use Rattle.plate.specs.Answers.{ruleFits, ruleSeen, orderedBehind, rulesStep, above, foldingsGood, keyBehind, edition}
 use Rattle.plate.specs.Window.{Holds}
 use Rattle.plate.specs.declared.Step.{Step}
 use Rattle.plate.specs.declared.Step.the-variants.{To, Nowhere}
@@ -283,14 +283,11 @@ module _ (g : ℕ → Bool) (end : ℕ → ℕ) (a : ℕ) where
 -- ---- a rule
 
 module _ (c n c′ n′ : ℕ) where
-  pub order-less : c < c′ → true ≡ inOrder c n c′ n′
-  order-less h = sym (ap (λ (t : Bool). t || (eqb c c′ && leb n′ n)) (lt-ltb c c′ h))
+  pub order-same : c ≡ c′ → leb n′ n ≡ inOrder c n c′ n′
+  order-same e = sym (ap₂ (λ (t u : Bool). t || (u && leb n′ n)) (le-ltb c c′ (omega arith)) (eq-eqb c c′ e))
 
-  pub order-same : c′ ≤ c → c ≡ c′ → leb n′ n ≡ inOrder c n c′ n′
-  order-same h e = sym (ap₂ (λ (t u : Bool). t || (u && leb n′ n)) (le-ltb c c′ h) (eq-eqb c c′ e))
-
-  pub order-more : c′ ≤ c → (c ≡ c′ → ⊥) → false ≡ inOrder c n c′ n′
-  order-more h e = sym (ap₂ (λ (t u : Bool). t || (u && leb n′ n)) (le-ltb c c′ h) (ne-eqb c c′ e))
+  pub order-apart : (c ≡ c′ → ⊥) → ltb c c′ ≡ inOrder c n c′ n′
+  order-apart e = sym (ap (λ (u : Bool). ltb c c′ || (u && leb n′ n)) (ne-eqb c c′ e) ∙ or-false (ltb c c′))
 
 module _ (s : List ℕ) (at c n : ℕ) where
   abbrev goodAt : ℕ → Bool
@@ -440,6 +437,29 @@ module _ (s : List ℕ) (at key : ℕ) where
 
     pub foldings-turn : v ≡ true → (k : ℕ) → k ≡ numberAt s at 21 → foldingsGood s (at + 42) (left - 1) k ≡ foldingsGood s at left key
     foldings-turn f k g = ap (foldingsGood s (at + 42) (left - 1)) g ∙ sym (split-foldings ∙ and-holds _ _ (sym e ∙ f))
+
+-- A good folding's key, or 0; a key behind another is not 0.
+module _ (s : List ℕ) (at key : ℕ) where
+  pub key-is : (v : Bool) → v ≡ foldingFits s at key → (b : Bool) → v ≡ b → cond b (numberAt s at 21) 0 ≡ keyBehind s at key
+  key-is v e b f = ap (λ (t : Bool). cond t (numberAt s at 21) 0) (sym f ∙ e)
+
+  module _ (k : ℕ) (e : k ≡ keyBehind s at key) where
+    pub no-key : k ≡ 0 → foldingFits s at key ≡ false
+    no-key z = go (foldingFits s at key) refl
+      where
+        go : (t : Bool) → foldingFits s at key ≡ t → t ≡ false
+        go false f = refl
+        go true f =
+            let less = ltb-true key (numberAt s at 21) (and-true (goodFolding (foldingAt s at)) (ltb key (numberAt s at 21)) f .1) in
+            let here : k ≡ numberAt s at 21 = e ∙ ap (λ (t : Bool). cond t (numberAt s at 21) 0) f in
+            absurd (omega arith)
+
+    pub some-key : (k ≡ 0 → ⊥) → (foldingFits s at key ≡ true) × (k ≡ numberAt s at 21)
+    some-key some = go (foldingFits s at key) refl
+      where
+        go : (t : Bool) → foldingFits s at key ≡ t → (foldingFits s at key ≡ true) × (k ≡ numberAt s at 21)
+        go true f = (f, e ∙ ap (λ (t : Bool). cond t (numberAt s at 21) 0) f)
+        go false f = absurd (some (e ∙ ap (λ (t : Bool). cond t (numberAt s at 21) 0) f))
 
 pub foldings-end : (s : List ℕ) (at left key : ℕ) → left ≤ 0 → foldingsGood s at left key ≡ true
 foldings-end s at zero key h = refl

@@ -10,3 +10,4 @@ pub mod Noting
 pub mod Halves
 pub mod Parts
 pub mod Only
+pub mod Shapes

@@ -127,6 +127,10 @@ above k (f ∷ more) = ltb k (f .key) && rising (f ∷ more)
 abbrev pub foldingsGood : List ℕ → ℕ → ℕ → ℕ → Bool
 foldingsGood s at left k = let fs = many (foldingAt s) foldingEnd left at in every goodFolding fs && above k fs
 
+-- the key of the folding at a place, if that is good behind a key; else 0
+abbrev pub keyBehind : List ℕ → ℕ → ℕ → ℕ
+keyBehind s at k = cond (goodFolding (foldingAt s at) && ltb k (numberAt s at 21)) (numberAt s at 21) 0
+
 -- ---- editions
 
 abbrev pub edition : ℕ → ℕ → ℕ → Edition

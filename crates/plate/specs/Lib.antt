@@ -9,3 +9,4 @@ pub mod Stands
 pub mod Field
 pub mod Window
 pub mod Noted
+pub mod Plain

@@ -1,6 +1,6 @@
 // Which bytes are a plate, in one pass from the front: the place behind each part is where the next begins.
 ghost use mathlib.Core.Path.{_≡_};
-ghost use mathlib.Core.Bool.{true, _&&_};
+ghost use mathlib.Core.Bool.{_&&_};
 ghost use mathlib.Core.List.{List};
 ghost use Prim.Native.Nat.{ℕ, _+_, _*_, _≤_, _<_};
 ghost use lib.Dec.{ltb};
@@ -10,9 +10,8 @@ ghost use Rattle.plate.specs.Plate.{nonzeroScalar, goodFolding, mostFold
 ghost use Rattle.plate.specs.Most.{mostRules, alternativeMost, fieldMost, ruleMost, foldingsMost, plateMost, farthest};
 ghost use Rattle.plate.specs.Read.{foldingAt, foldingsPlace, closed, acceptedIn};
 ghost use Rattle.plate.specs.Window.{Holds};
-ghost use Rattle.plate.specs.Answers.{bytesAt, lastDigits, upTo, alternativeStep, fieldStep, fieldsStep, firstOf, inOrder, ruleSeen, seenTo, rulesStep, foldingsGood, edition};
+ghost use Rattle.plate.specs.Answers.{bytesAt, lastDigits, upTo, alternativeStep, fieldStep, fieldsStep, firstOf, inOrder, ruleSeen, seenTo, rulesStep, foldingsGood, keyBehind, edition};
 ghost use Rattle.plate.specs.Noted.{notedCharacters, Unnoted, NotedTo, NotedIf};
-ghost use Rattle.plate.specs.declared.Step.the-variants.{To};
 use super::CHARACTER_BITS;
 use super::COUNT_BITS;
 use super::EDITION;
@@ -30,12 +29,17 @@ use super::Seen;
 use super::Step;
 use super::bits::bits;
 use super::bits::size;
-use super::note::group_start;
+use super::note::next_group;
 use super::note::note_group;
 use super::pattern;
+use super::plain::plain_code;
+use super::plain::plain_fields;
+use super::plain::plain_key;
+use super::plain::short_field;
 use super::reader;
 use super::window::part;
 use super::window::window;
+use super::window::window_in;
 use chars::utf8;
 
 // The last n digits of a number, four bits each, are 0 to 9.
@@ -77,24 +81,15 @@ fn accept_alternative(plate: &[u8], at: usize) -> Step
     alternative_in(window(plate, at), at)
 }
 
-// A field of one alternative of one digit stands in front of a window: 0001, 001, and a digit of 0 to 9.
-fn is_digit(w: u64) -> bool
-    ensures { λ r. ⌜ (r ≡ true → (s : List ℕ) (at : ℕ) → Holds s at 11 w → To (at + 11) ≡ fieldStep s at) ⌝ }
-{
-    if w < 0x1200000000000000 {
-        return false;
-    }
-    w < 0x1340000000000000
-}
-
-// A field: its count, then its alternatives. Most have one, which stands in the same window.
+// A field: its count, then its alternatives. Most are short, or have one, which stands in the same window.
 fn accept_field(plate: &[u8], at: usize) -> Step
     requires { ⌜ at ≤ farthest 2 ⌝ }
     ensures { λ r. ⌜ (r ≡ fieldStep (now (plate .entry)) at) × upTo r (at + fieldMost) ⌝ }
 {
     let w = window(plate, at);
-    if is_digit(w) {
-        return Step::To(at + 11);
+    let bits = short_field(w);
+    if 0 < bits {
+        return Step::To(at + bits);
     }
     let n = part(w, 0, 4) as usize;
     if n == 1 {
@@ -159,17 +154,14 @@ fn accept_pattern(plate: &[u8], at: usize, n: usize) -> First
 fn in_order(c: u32, n: usize, c2: u32, n2: usize) -> bool
     ensures { λ r. ⌜ r ≡ inOrder c n c2 n2 ⌝ }
 {
-    if c < c2 {
-        return true;
-    }
     if c == c2 {
         return n2 <= n;
     }
-    false
+    c < c2
 }
 
-// The rule at a place, behind one of first code point c and n bytes.
-fn accept_rule(plate: &[u8], at: usize, c: u32, n: usize) -> Seen
+// Any rule at a place, behind one of first code point c and n bytes.
+fn any_rule(plate: &[u8], at: usize, c: u32, n: usize) -> Seen
     requires { ⌜ at ≤ plateMost ⌝ }
     ensures { λ r. ⌜ (r ≡ ruleSeen (now (plate .entry)) at c n) × seenTo r (at + ruleMost) ⌝ }
 {
@@ -186,7 +178,32 @@ fn accept_rule(plate: &[u8], at: usize, c: u32, n: usize) -> Seen
     Seen::Wrong
 }
 
-// The n rules from a place on; each is noted as it is accepted. The present group is noted anew at every rule, so that none is left over at the end.
+// The rule at a place, behind one of first code point c and n bytes; a plain one, far from the end, by its shape. The last window over it begins no later
+// than 149 bits behind its place, and is eight bytes long: 27 bytes are read at most.
+fn accept_rule(plate: &[u8], at: usize, c: u32, n: usize) -> Seen
+    requires { ⌜ at ≤ plateMost ⌝ }
+    ensures { λ r. ⌜ (r ≡ ruleSeen (now (plate .entry)) at c n) × seenTo r (at + ruleMost) ⌝ }
+{
+    if plate.len() < at / 8 + 27 {
+        return any_rule(plate, at, c, n);
+    }
+    let w = window_in(plate, at);
+    let length = part(w, 0, 5) as usize;
+    let code = plain_code(w << 5, length);
+    if code == 0 {
+        return any_rule(plate, at, c, n);
+    }
+    let bits = plain_fields(plate, at + 5 + 8 * length);
+    if bits == 0 {
+        return any_rule(plate, at, c, n);
+    }
+    if in_order(c, n, code, length) {
+        return Seen::Good(code, length, at + 5 + 8 * length + bits);
+    }
+    Seen::Wrong
+}
+
+// The n rules from a place on; each is noted as it is accepted, and each group when it is over.
 fn accept_rules(plate: &[u8], from: usize, n: usize, places: &mut [u32], groups: &mut [u32]) -> Step
     requires { ⌜ (from ≤ foldingsMost) × (n ≤ mostRules) × Unnoted n (now places) (now groups) ⌝ }
     ensures { λ r. ⌜ (r ≡ rulesStep (now (plate .entry)) from n 0 0) × upTo r (from + ruleMost * n) × NotedTo r (now (plate .entry)) from n (now (places .exit)) (now (groups .exit)) ⌝ }
@@ -201,13 +218,13 @@ fn accept_rules(plate: &[u8], from: usize, n: usize, places: &mut [u32], groups:
             return Step::Nowhere;
         };
         places[i] = at as u32;
-        begun = group_start(code, begun, c, i);
-        note_group(groups, c, begun, i);
+        begun = next_group(groups, code, begun, c, i);
         i += 1;
         at = next;
         code = c;
         length = k;
     }
+    note_group(groups, code, begun, n);
     Step::To(at)
 }
 
@@ -235,6 +252,32 @@ fn accept_folding(plate: &[u8], at: usize, key: u32) -> bool
     false
 }
 
+// The key of any folding at a place, behind another key; 0 if it is not accepted.
+fn any_key(plate: &[u8], at: usize, before: u32) -> u32
+    requires { ⌜ at ≤ foldingsMost ⌝ }
+    ensures { λ r. ⌜ r ≡ keyBehind (now (plate .entry)) at before ⌝ }
+{
+    if accept_folding(plate, at, before) {
+        return bits(plate, at, CHARACTER_BITS);
+    }
+    0
+}
+
+// The same; of a plain folding by its shape.
+fn accept_key(plate: &[u8], at: usize, before: u32) -> u32
+    requires { ⌜ at ≤ foldingsMost ⌝ }
+    ensures { λ r. ⌜ r ≡ keyBehind (now (plate .entry)) at before ⌝ }
+{
+    if plate.len() < at / 8 + 8 {
+        return any_key(plate, at, before);
+    }
+    let key = plain_key(window_in(plate, at), before);
+    if key == 0 {
+        return any_key(plate, at, before);
+    }
+    key
+}
+
 // The n foldings.
 fn accept_foldings(plate: &[u8], n: usize) -> bool
     requires { ⌜ n ≤ mostFoldings ⌝ }
@@ -242,15 +285,15 @@ fn accept_foldings(plate: &[u8], n: usize) -> bool
 {
     let mut at: usize = FOLDINGS;
     let mut left = n;
-    let mut key: u32 = 0;
+    let mut before: u32 = 0;
     while 0 < left {
-        if accept_folding(plate, at, key) {
-            key = bits(plate, at, CHARACTER_BITS);
-            at += FOLDING_BITS;
-            left -= 1;
-            continue;
+        let key = accept_key(plate, at, before);
+        if key == 0 {
+            return false;
         }
-        return false;
+        before = key;
+        at += FOLDING_BITS;
+        left -= 1;
     }
     true
 }

@@ -1,6 +1,7 @@
 // The plate: its bits, which bytes are one, reading a rule or a folding at a bit place. What build writes stands in specs/ here, the code that writes it in the crate builder.
 pub mod bits; // bits.rt: the number that bits at a place write
 mod window; // window.rt: sixty-four bits at once
+mod plain; // plain.rt: plain rules, by the shape of their bits
 pub mod reader; // reader.rt: the bit reader
 pub mod pattern; // pattern.rt: a pattern's characters
 pub mod note; // note.rt: what is noted of the rules of a plate while it is accepted

@@ -2,13 +2,12 @@
 // characters, those that a name may hold; any other (a folding's target may be any) has its group found by halves, since rules stand by first character.
 ghost use mathlib.Core.Path.{_≡_};
 ghost use mathlib.Core.Bool.{true};
-ghost use mathlib.Core.Logic.{_⊎_};
 ghost use Prim.Native.Nat.{_+_, _*_, _≤_};
 ghost use lib.ListN.{length, set};
 ghost use Rattle.plate.specs.Plate.{edition1};
 ghost use Rattle.plate.specs.Most.{mostRules};
 ghost use Rattle.plate.specs.Read.{plateAt, acceptedIn, ruleCount, rulesPlace};
-ghost use Rattle.plate.specs.Noted.{notedCharacters, half, GroupIs, Parted, Placed, Noted};
+ghost use Rattle.plate.specs.Noted.{notedCharacters, half, GroupIs, Parted, Placed, Noted, Begun};
 use super::Group;
 use super::NOTED;
 use super::read;
@@ -16,22 +15,28 @@ use super::read;
 // A group is noted in one number: its first rule times this, and the rule behind its last.
 const HALF: usize = 65536;
 
-// Where the group begins that rule i, of first code point c, belongs to: with the rule before, whose group began at `begun`, or here.
-pub(crate) fn group_start(code: u32, begun: usize, c: u32, i: usize) -> usize
-    ensures { λ r. ⌜ ((c ≡ code) × (r ≡ begun)) ⊎ ((c ≡ code → ⊥) × (r ≡ i)) ⌝ }
-{
-    if c == code { begun } else { i }
-}
-
-// A character's group, from its first rule to its last, is noted, if the character is one of the first.
-pub(crate) fn note_group(groups: &mut [u32], c: u32, first: usize, last: usize)
-    requires { ⌜ (length (now groups) ≡ notedCharacters) × (first ≤ mostRules) × (last ≤ mostRules) ⌝ }
-    ensures { λ r. ⌜ now (groups .exit) ≡ set (now (groups .entry)) c (first * half + (last + 1)) ⌝ }
+// A character's group is noted, its first rule and the one behind its last, if the character is one of the first.
+pub(crate) fn note_group(groups: &mut [u32], c: u32, first: usize, behind: usize)
+    requires { ⌜ (length (now groups) ≡ notedCharacters) × (first ≤ mostRules) × (behind ≤ mostRules) ⌝ }
+    ensures { λ r. ⌜ now (groups .exit) ≡ set (now (groups .entry)) c (first * half + behind) ⌝ }
 {
     if NOTED as u32 <= c {
         return;
     }
-    groups[c as usize] = (first * HALF + (last + 1)) as u32;
+    groups[c as usize] = (first * HALF + behind) as u32;
+}
+
+// Where the group begins that rule i, of first code point c, belongs to: with the rule before, whose group began at `begun`, or here; then that of the
+// rule before is over, and noted.
+pub(crate) fn next_group(groups: &mut [u32], code: u32, begun: usize, c: u32, i: usize) -> usize
+    requires { ⌜ (length (now groups) ≡ notedCharacters) × (begun ≤ mostRules) × (i ≤ mostRules) ⌝ }
+    ensures { λ r. ⌜ Begun code begun c i (now (groups .entry)) r (now (groups .exit)) ⌝ }
+{
+    if c == code {
+        return begun;
+    }
+    note_group(groups, code, begun, i);
+    i
 }
 
 // How many of n rules begin with a character below c: those in front, since rules stand by first character.

@@ -1,7 +1,7 @@
 // Sixty-four bits at once: a window over the plate, and the parts of it.
 ghost use mathlib.Core.Path.{_≡_};
 ghost use mathlib.Core.List.{List};
-ghost use Prim.Native.Nat.{ℕ, _+_, _^_, _≤_, _<_};
+ghost use Prim.Native.Nat.{ℕ, _+_, _/_, _^_, _≤_, _<_};
 ghost use lib.ListN.{length};
 ghost use Rattle.plate.specs.Bits.{numberAt};
 ghost use Rattle.plate.specs.Window.{eightBytes, Holds};
@@ -25,9 +25,6 @@ fn eight_bytes(plate: &[u8], k: usize) -> u64
     requires { ⌜ k ≤ 2 ^ 61 ⌝ }
     ensures { λ r. ⌜ r ≡ eightBytes (now (plate .entry)) k ⌝ }
 {
-    if k + 8 <= plate.len() {
-        return eight_in(plate, k);
-    }
     let a = byte(plate, k) * 72057594037927936 + byte(plate, k + 1) * 281474976710656;
     let b = byte(plate, k + 2) * 1099511627776 + byte(plate, k + 3) * 4294967296;
     let c = byte(plate, k + 4) * 16777216 + byte(plate, k + 5) * 65536;
@@ -35,10 +32,21 @@ fn eight_bytes(plate: &[u8], k: usize) -> u64
     (a + b) + (c + d)
 }
 
-// The bits from a place on, the first in front; 57 are there at least.
+// The bits from a place on, the first in front, where eight bytes are there; 57 bits at least.
+pub(crate) fn window_in(plate: &[u8], at: usize) -> u64
+    requires { ⌜ at / 8 + 8 ≤ length (now plate) ⌝ }
+    ensures { λ r. ⌜ Holds (now (plate .entry)) at 57 r ⌝ }
+{
+    eight_in(plate, at / 8) << (at % 8)
+}
+
+// The same anywhere: near the end zeros stand behind the last byte.
 pub(crate) fn window(plate: &[u8], at: usize) -> u64
     ensures { λ r. ⌜ Holds (now (plate .entry)) at 57 r ⌝ }
 {
+    if at / 8 + 8 <= plate.len() {
+        return window_in(plate, at);
+    }
     eight_bytes(plate, at / 8) << (at % 8)
 }
 

@@ -14,10 +14,11 @@ use Rattle.plate.proofs.accept.accept_field.Statement.{statement}
 use Rattle.plate.proofs.accept.accept_field.Tie as tie
 
 abbrev Inv-loop : tie.InvT-loop
-Inv-loop plate at w n place₀ left₀ place left = (place + alternativeMost * left ≤ at + 4 + alternativeMost * n) × (alternativesStep plate left place ≡ alternativesStep plate n (at + 4))
+Inv-loop plate at w bits n place₀ left₀ place left =
+    (place + alternativeMost * left ≤ at + 4 + alternativeMost * n) × (alternativesStep plate left place ≡ alternativesStep plate n (at + 4))
 
 abbrev μ-loop : tie.MeasureT-loop
-μ-loop plate at w n place₀ left₀ place left = left
+μ-loop plate at w bits n place₀ left₀ place left = left
 
 -- The entry.
 abbrev entry : tie.After-part Inv-loop μ-loop → tie.Start Inv-loop μ-loop
@@ -36,19 +37,22 @@ counted c =
 window-requires : tie.Need-window-requires Inv-loop μ-loop
 window-requires c κs = tt
 
-is-digit-requires : tie.Need-is-digit-requires Inv-loop μ-loop
-is-digit-requires c κs = tt
+short-field-requires : tie.Need-short-field-requires Inv-loop μ-loop
+short-field-requires c κs = tt
 
-add-t9 : tie.Need-add-t9 Inv-loop μ-loop
-add-t9 c = omega arith
+add-t10 : tie.Need-add-t10 Inv-loop μ-loop
+add-t10 c = omega arith
 
 returns : tie.Need-returns Inv-loop μ-loop
 returns c =
-    let a = c .before .before .before .before .args in
-    let w = c .before .before .window in (
-      c .before .is-digit .ensures (c .if1 .taken) (a .plate .now) (a .at) (front (a .plate .now) (a .at) 57 (w .result) (w .ensures) (omega arith) 11 (omega arith)),
-      omega arith,
-    )
+    let read = c .before in
+    let seen = read .before in
+    let a = seen .before .before .args in
+    let s = a .plate .now in
+    let w = seen .window in
+    let b = read .short-field in
+    let few = b .ensures .0 in
+    (b .ensures .1 (λ e. omega arith) s (a .at) (front s (a .at) 57 (w .result) (w .ensures) (omega arith) 48 (omega arith)), omega arith)
 
 part-requires : tie.Need-part-requires Inv-loop μ-loop
 part-requires c κs = (omega arith, omega arith, omega arith)
@@ -159,8 +163,8 @@ accept-field-spec =
     Inv-loop
     μ-loop
     window-requires
-    is-digit-requires
-    add-t9
+    short-field-requires
+    add-t10
     returns
     part-requires
     add-alternative-in

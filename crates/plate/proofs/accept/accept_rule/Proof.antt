@@ -1,107 +1,135 @@
--- `plate::accept::accept_rule` meets its contract: pattern, order and fields are tested in turn, and each refusal is the definition's
--- (Accepted.rule-pattern, rule-order, rule-fields). Assumes nothing.
-use Prim.Native.Nat.{_+_}
+-- `plate::accept::accept_rule` meets its contract: a plain pattern and plain fields are those of the definition, and the order decides (Accepted.rule-order,
+-- rule-good); any other rule is left to `any_rule`. Assumes nothing.
+use Prim.Native.Nat.{ℕ, _+_, _*_, _≤_}
+use mathlib.Core.Path.{_≡_, refl, _∙_, ap}
+use native.Mathlib.Nat.{add-zero}
 use native.Mathlib.Omega.{arith}
 use borrow.Author.Needs.{needs}
-use Rattle.plate.proofs.Accepted.{pattern-few, rule-pattern, rule-order, rule-fields, rule-good}
+use Rattle.plate.specs.Bits.{numberAt}
+use Rattle.plate.specs.Answers.{bytesAt, firstOf}
+use Rattle.plate.specs.declared.First.the-variants as FirstIs
+use Rattle.plate.specs.declared.Step.the-variants.{To}
+use Rattle.plate.proofs.Accepted.{rule-order, rule-good}
+use Rattle.plate.proofs.Shapes.{behind-held}
 use Rattle.plate.proofs.accept.accept_rule.Statement.{statement}
 use Rattle.plate.proofs.accept.accept_rule.Tie as tie
 
-size-requires : tie.Need-size-requires
-size-requires c κs = search needs
+-- The entry.
+abbrev entry : tie.After-part → tie.Start
+entry c = let seen = c .before in seen .before .before .before
 
-add-accept-pattern : tie.Need-add-accept-pattern
-add-accept-pattern c = search needs
+-- The number read is the pattern's length.
+length-is : (c : tie.After-part) → let a = entry c .args in c .part .result ≡ numberAt (a .plate .now) (a .at) 5
+length-is c =
+    let a = entry c .args in
+    c .part .ensures .1 (a .plate .now) (a .at) 57 (omega arith) (omega arith) (c .before .window-in .ensures) ∙ ap (λ (p : ℕ). numberAt (a .plate .now) p 5) (add-zero (a .at))
 
-accept-pattern-requires : tie.Need-accept-pattern-requires
-accept-pattern-requires c κs = search needs
+-- The code point is its first.
+is-code : (c : tie.Else2) →
+    let coded = c .before in
+    let counted = coded .before in
+    let a = entry counted .args in FirstIs.Code (coded .plain-code .result) ≡ firstOf (bytesAt (a .plate .now) (counted .part .result) (a .at + 5))
+is-code c =
+    let coded = c .before in
+    let seen = coded .before .before in
+    let a = entry (coded .before) .args in
+    let w = seen .window-in in
+    coded .plain-code .ensures (c .if2 .left) .1 (a .plate .now) (a .at + 5)
+    (behind-held (a .plate .now) (a .at) 57 (w .result) 5 48 (w .ensures) (omega arith) (omega arith))
 
-enum-known-code : tie.Need-enum-known-code
-enum-known-code c = search needs
+add-if1 : tie.Need-add-if1
+add-if1 c = search needs
 
-enum-told : tie.Need-enum-told
-enum-told c = search needs
+any-rule-requires : tie.Need-any-rule-requires
+any-rule-requires c κs = search needs
 
 returns : tie.Need-returns
-returns c =
-    let at-accept-pattern = c .before .before in
-    let at-size = at-accept-pattern .before in
-    let a = at-size .before .before .args in (
-      rule-pattern (a .plate .now) (a .at) (a .c) (a .n) (at-size .size .result) (at-size .size .ensures .0) (at-accept-pattern .accept-pattern .result)
-          (at-accept-pattern .accept-pattern .ensures) (c .enum-told .given .1),
-      omega arith,
-    )
+returns c = search needs
+
+window-in-requires : tie.Need-window-in-requires
+window-in-requires c κs = search needs
+
+part-requires : tie.Need-part-requires
+part-requires c κs = search needs
+
+plain-code-requires : tie.Need-plain-code-requires
+plain-code-requires c κs = search needs
+
+any-rule-requires-2 : tie.Need-any-rule-requires-2
+any-rule-requires-2 c κs = search needs
+
+returns-2 : tie.Need-returns-2
+returns-2 c = search needs
+
+add-plain-fields : tie.Need-add-plain-fields
+add-plain-fields c = search needs
+
+mul-plain-fields : tie.Need-mul-plain-fields
+mul-plain-fields c = search needs
+
+add-plain-fields-2 : tie.Need-add-plain-fields-2
+add-plain-fields-2 c = search needs
+
+plain-fields-requires : tie.Need-plain-fields-requires
+plain-fields-requires c κs =
+    let coded = c .before in
+    let far = coded .before .before .before in
+    let few = coded .plain-code .ensures (c .if2 .left) .0 in
+    let room = far .if1 .left in
+    (omega arith, omega arith)
+
+any-rule-requires-3 : tie.Need-any-rule-requires-3
+any-rule-requires-3 c κs = search needs
+
+returns-3 : tie.Need-returns-3
+returns-3 c = search needs
 
 in-order-requires : tie.Need-in-order-requires
 in-order-requires c κs = search needs
 
-add-accept-fields : tie.Need-add-accept-fields
-add-accept-fields c = search needs
+add-t15 : tie.Need-add-t15
+add-t15 c = search needs
 
-mul-accept-fields : tie.Need-mul-accept-fields
-mul-accept-fields c = search needs
+mul-t16 : tie.Need-mul-t16
+mul-t16 c = search needs
 
-add-accept-fields-2 : tie.Need-add-accept-fields-2
-add-accept-fields-2 c = search needs
+add-t17 : tie.Need-add-t17
+add-t17 c = search needs
 
-accept-fields-requires : tie.Need-accept-fields-requires
-accept-fields-requires c κs = search needs
-
-enum-known-next : tie.Need-enum-known-next
-enum-known-next c = search needs
-
-enum-told-2 : tie.Need-enum-told-2
-enum-told-2 c = search needs
-
-returns-2 : tie.Need-returns-2
-returns-2 c =
-    let at-accept-fields = c .before .before in
-    let at-if1 = at-accept-fields .before in
-    let at-in-order = at-if1 .before in
-    let at-code = at-in-order .before .before in
-    let at-accept-pattern = at-code .before .before in
-    let at-size = at-accept-pattern .before in
-    let a = at-size .before .before .args in
-    let v = at-code .code .given in (
-      rule-fields (a .plate .now) (a .at) (a .c) (a .n) (at-size .size .result) (at-size .size .ensures .0) (at-accept-pattern .accept-pattern .result)
-          (at-accept-pattern .accept-pattern .ensures)
-          (v .0 .0) (v .1) (at-in-order .in-order .result) (at-in-order .in-order .ensures) (at-if1 .if1 .taken) (at-accept-fields .accept-fields .result)
-          (at-accept-fields .accept-fields .ensures .0) (c .enum-told2 .given .1),
-      omega arith,
-    )
-
-returns-3 : tie.Need-returns-3
-returns-3 c =
-    let at-next = c .before in
-    let at-accept-fields = at-next .before .before in
-    let at-if1 = at-accept-fields .before in
-    let at-in-order = at-if1 .before in
-    let at-code = at-in-order .before .before in
-    let at-accept-pattern = at-code .before .before in
-    let at-size = at-accept-pattern .before in
-    let a = at-size .before .before .args in
-    let v = at-code .code .given in
-    let x = at-next .next .given in
-    let b = rw (x .1) at (at-accept-fields .accept-fields .ensures .1) in
-    let n = pattern-few (a .plate .now) (at-size .size .result) (a .at + 5) (at-accept-pattern .accept-pattern .result) (at-accept-pattern .accept-pattern .ensures) (v .0 .0) (v .1) in (
-      rule-good (a .plate .now) (a .at) (a .c) (a .n) (at-size .size .result) (at-size .size .ensures .0) (at-accept-pattern .accept-pattern .result)
-          (at-accept-pattern .accept-pattern .ensures)
-          (v .0 .0) (v .1) (at-in-order .in-order .result) (at-in-order .in-order .ensures) (at-if1 .if1 .taken) (at-accept-fields .accept-fields .result)
-          (at-accept-fields .accept-fields .ensures .0) (x .0 .0) (x .1),
-      omega arith,
-    )
+add-t18 : tie.Need-add-t18
+add-t18 c = search needs
 
 returns-4 : tie.Need-returns-4
 returns-4 c =
-    let at-in-order = c .before in
-    let at-code = at-in-order .before .before in
-    let at-accept-pattern = at-code .before .before in
-    let at-size = at-accept-pattern .before in
-    let a = at-size .before .before .args in
-    let v = at-code .code .given in (
-      rule-order (a .plate .now) (a .at) (a .c) (a .n) (at-size .size .result) (at-size .size .ensures .0) (at-accept-pattern .accept-pattern .result)
-          (at-accept-pattern .accept-pattern .ensures)
-          (v .0 .0) (v .1) (at-in-order .in-order .result) (at-in-order .in-order .ensures) (c .if1 .left),
+    let told = c .before in
+    let fields = told .before .before in
+    let plain = fields .before in
+    let counted = plain .before .before in
+    let a = entry counted .args in
+    let n = counted .part .result in
+    let code = plain .before .plain-code in
+    let o = told .in-order in
+    let few = code .ensures (plain .if2 .left) .0 in
+    let b = fields .plain-fields in
+    let short = b .ensures .0 in
+    let next = a .at + 5 + 8 * n + b .result in (
+      rule-good (a .plate .now) (a .at) (a .c) (a .n) n (length-is counted) (FirstIs.Code (code .result)) (is-code plain) (code .result) refl (o .result) (o .ensures) (c .if4 .taken)
+          (To next) (b .ensures .1 (told .before .if3 .left)) next refl,
+      omega arith,
+    )
+
+returns-5 : tie.Need-returns-5
+returns-5 c =
+    let told = c .before in
+    let fields = told .before .before in
+    let plain = fields .before in
+    let counted = plain .before .before in
+    let a = entry counted .args in
+    let n = counted .part .result in
+    let code = plain .before .plain-code in
+    let o = told .in-order in (
+      rule-order (a .plate .now) (a .at) (a .c) (a .n) n (length-is counted) (FirstIs.Code (code .result)) (is-code plain) (code .result) refl (o .result) (o .ensures)
+          (c .if4 .left),
       omega arith,
     )
 
@@ -109,19 +137,24 @@ pub accept-rule-spec : {M : Type 1} → statement M
 accept-rule-spec =
     tie.close
     (tie.spec
-    size-requires
-    add-accept-pattern
-    accept-pattern-requires
-    enum-known-code
-    enum-told
+    add-if1
+    any-rule-requires
     returns
-    in-order-requires
-    add-accept-fields
-    mul-accept-fields
-    add-accept-fields-2
-    accept-fields-requires
-    enum-known-next
-    enum-told-2
+    window-in-requires
+    part-requires
+    plain-code-requires
+    any-rule-requires-2
     returns-2
+    add-plain-fields
+    mul-plain-fields
+    add-plain-fields-2
+    plain-fields-requires
+    any-rule-requires-3
     returns-3
-    returns-4)
+    in-order-requires
+    add-t15
+    mul-t16
+    add-t17
+    add-t18
+    returns-4
+    returns-5)

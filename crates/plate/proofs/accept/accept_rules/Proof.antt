@@ -2,7 +2,6 @@
 -- Assumes nothing.
 use Prim.Native.Nat.{ℕ, _+_, _-_, _*_, _≤_, _<_}
 use mathlib.Core.Path.{_≡_, refl, sym, _∙_, ap, subst}
-use mathlib.Core.Logic.{⊎-elim}
 use mathlib.Core.List.{List}
 use native.Mathlib.Nat.{sub-zero}
 use native.Mathlib.Omega.{arith}
@@ -10,17 +9,18 @@ use borrow.Author.Needs.{needs}
 use lib.ListN.{length, set, length-set, length-replicate}
 use Rattle.plate.specs.Answers.{rulesStep}
 use Rattle.plate.specs.Most.{ruleMost}
-use Rattle.plate.specs.Noted.{notedCharacters, NotedFrom}
+use Rattle.plate.specs.Noted.{half, notedCharacters, NotedFrom}
 use Rattle.plate.proofs.Accepted.{rules-stop, rules-turn, rules-end}
-use Rattle.plate.proofs.Noting.{Going, going-start, going-turn}
+use Rattle.plate.proofs.Noting.{Going, going-start, going-turn, group-began, now-noted, begun-length}
 use Rattle.plate.proofs.accept.accept_rules.Statement.{statement}
 use Rattle.plate.proofs.accept.accept_rules.Tie as tie
 
--- What the loop keeps beside its bounds: the rules left decide as all do, and those passed are noted.
+-- What the loop keeps beside its bounds: the rules left decide as all do, and those passed are noted, once the present group is.
 record Kept (plate : List ℕ) (from n : ℕ) (lent places groups : List ℕ) (at i begun code len : ℕ) : Type 0 where
   long : length places ≡ length lent
   left : rulesStep plate at (n - i) code len ≡ rulesStep plate from n 0 0
-  going : Going plate from i at begun code places groups
+  size : length groups ≡ notedCharacters
+  going : Going plate from i at begun code places (set groups code (begun * half + i))
 
 abbrev Inv-loop : tie.InvT-loop
 Inv-loop plate from n places₀ groups₀ at₀ i₀ begun₀ code₀ len₀ places groups at i begun code len =
@@ -38,7 +38,8 @@ loop-holds c =
       record {
         long = refl;
         left = ap (λ (k : ℕ). rulesStep (a .plate .now) (a .from) k 0 0) (sub-zero (a .n));
-        going = going-start (a .plate .now) (a .from) (a .places .now) (a .groups .now) (start .pre .2 .clear);
+        size = ap length (start .pre .2 .clear) ∙ length-replicate {A = ℕ} notedCharacters 0;
+        going = going-start (a .plate .now) (a .from) (a .places .now) (set (a .groups .now) 0 0) (ap (λ (l : List ℕ). set l 0 0) (start .pre .2 .clear));
       },
     )
 
@@ -58,7 +59,7 @@ same-length-2 : tie.Need-same-length-2 Inv-loop μ-loop
 same-length-2 c =
     let at-loop = c .before .before .before .before in
     let start = at-loop .before .before .before .before in
-    at-loop .loop .inv .2 .going .noted .1 .size ∙ sym (ap length (start .pre .2 .clear) ∙ length-replicate {A = ℕ} notedCharacters 0)
+    at-loop .loop .inv .2 .size ∙ sym (ap length (start .pre .2 .clear) ∙ length-replicate {A = ℕ} notedCharacters 0)
 
 returns : tie.Need-returns Inv-loop μ-loop
 returns c =
@@ -81,15 +82,11 @@ mul-places c = omega arith
 slice-write-places : tie.Need-slice-write-places Inv-loop μ-loop
 slice-write-places c = let p = let known = c .before in known .before .before .before .before .loop .inv .2 .long in omega arith
 
-group-start-requires : tie.Need-group-start-requires Inv-loop μ-loop
-group-start-requires c κs = tt
-
-note-group-requires : tie.Need-note-group-requires Inv-loop μ-loop
-note-group-requires c κs =
-    let at-loop = let known = c .before .before .before in known .before .before .before .before in
-    let g = at-loop .loop .inv .2 .going in
-    let q = g .last .rising in
-    (g .noted .1 .size, ⊎-elim (λ w. let e = w .1 in omega arith) (λ w. let e = w .1 in omega arith) (c .before .group-start .ensures), omega arith)
+next-group-requires : tie.Need-next-group-requires Inv-loop μ-loop
+next-group-requires c κs =
+    let at-loop = let known = c .before .before in known .before .before .before .before in
+    let q = at-loop .loop .inv .2 .going .last .rising in
+    (at-loop .loop .inv .2 .size, omega arith, omega arith)
 
 add-i : tie.Need-add-i Inv-loop μ-loop
 add-i c = omega arith
@@ -99,9 +96,8 @@ loop-less c = omega arith
 
 loop-again : tie.Need-loop-again Inv-loop μ-loop
 loop-again c =
-    let noted = c .before .before in
-    let begun = noted .before .before in
-    let known = begun .before .before in
+    let begun = c .before .before in
+    let known = begun .before .before .before in
     let seen = known .before .before in
     let at-loop = seen .before .before in
     let start = at-loop .before .before .before .before in
@@ -115,7 +111,9 @@ loop-again c =
     let going = seen .before .loop-test .taken in
     let more : 0 < a .n - l .i = omega (arith, going) in
     let room : l .i < length (l .places) = omega (arith, going, p, start .pre .2 .room) in
-    let b = begun .group-start in (
+    let b = begun .next-group in
+    let told = b .ensures in
+    let open-groups = set (l .groups) (l .code) (l .begun * half + l .i) in (
       omega arith,
       omega arith,
       record {
@@ -123,29 +121,47 @@ loop-again c =
         left = ap (λ (k : ℕ). rulesStep s (v .0 .1 .1 .0) k (v .0 .0) (v .0 .1 .0)) {x = a .n - (l .i + 1)} {y = a .n - l .i - 1} (omega arith)
             ∙ rules-turn s (l .at) (a .n - l .i) (l .code) (l .length) more (r .result) (r .ensures .0) (v .0 .0) (v .0 .1 .0) (v .0 .1 .1 .0) (v .1)
             ∙ l .inv .2 .left;
-        going = subst (λ (x : List ℕ). Going s (a .from) (l .i + 1) (v .0 .1 .1 .0) (b .result) (v .0 .0) (set (l .places) (l .i) (l .at)) x) (sym (noted .note-group .ensures))
-            (going-turn s (a .from) (l .i) (l .at) (l .begun) (l .code) (l .places) (l .groups) (l .inv .2 .going) (l .length) (r .result) (r .ensures .0) (v .0 .0) (v .0 .1 .0) (v .0 .1 .1 .0) (v .1)
-            (b .result) (b .ensures) (omega arith) room);
+        size = begun-length (l .code) (l .begun) (v .0 .0) (l .i) (b .result) (l .groups) _ told ∙ l .inv .2 .size;
+        going = subst (λ (x : List ℕ). Going s (a .from) (l .i + 1) (v .0 .1 .1 .0) (b .result) (v .0 .0) (set (l .places) (l .i) (l .at)) x)
+            (now-noted (l .code) (l .begun) (v .0 .0) (l .i) (b .result) (l .groups) _ told (b .result * half + (l .i + 1)))
+            (going-turn s (a .from) (l .i) (l .at) (l .begun) (l .code) (l .places) open-groups (l .inv .2 .going) (l .length) (r .result) (r .ensures .0) (v .0 .0) (v .0 .1 .0)
+            (v .0 .1 .1 .0) (v .1) (b .result) (group-began (l .code) (l .begun) (v .0 .0) (l .i) (b .result) (l .groups) _ told) (omega arith) room);
       },
     )
 
+note-group-requires : tie.Need-note-group-requires Inv-loop μ-loop
+note-group-requires c κs =
+    let at-loop = c .before .before in
+    let q = at-loop .loop .inv .2 .going .last .rising in
+    (at-loop .loop .inv .2 .size, omega arith, omega arith)
+
 same-length-3 : tie.Need-same-length-3 Inv-loop μ-loop
-same-length-3 c = c .before .loop .inv .2 .long
+same-length-3 c =
+    let noted = c .before .before in
+    let at-loop = noted .before .before .before in
+    at-loop .loop .inv .2 .long
 
 same-length-4 : tie.Need-same-length-4 Inv-loop μ-loop
 same-length-4 c =
-    let start = c .before in
-    start .loop .inv .2 .going .noted .1 .size ∙ sym (ap length (start .before .before .before .before .pre .2 .clear) ∙ length-replicate {A = ℕ} notedCharacters 0)
+    let noted = c .before .before in
+    let at-loop = noted .before .before .before in
+    let start = at-loop .before .before .before .before in
+    let l = at-loop .loop in
+    ap length (noted .note-group .ensures) ∙ length-set (l .groups) (l .code) (l .begun * half + start .args .n) ∙ l .inv .2 .size
+    ∙ sym (ap length (start .pre .2 .clear) ∙ length-replicate {A = ℕ} notedCharacters 0)
 
 returns-2 : tie.Need-returns-2 Inv-loop μ-loop
 returns-2 c =
-    let at-loop = c .before in
+    let noted = c .before .before in
+    let ended = noted .before .before in
+    let at-loop = ended .before in
     let a = let start = at-loop .before .before .before .before in start .args in
     let l = at-loop .loop in
     let all : l .i ≡ a .n = omega arith in (
       sym (rules-end (a .plate .now) (l .at) (a .n - l .i) (l .code) (l .length) (omega arith)) ∙ l .inv .2 .left,
       omega arith,
-      subst (λ (k : ℕ). NotedFrom (a .plate .now) (a .from) k (l .places) (l .groups)) all (l .inv .2 .going .noted),
+      subst (λ (x : List ℕ). NotedFrom (a .plate .now) (a .from) (a .n) (l .places) x) (sym (noted .note-group .ensures))
+          (subst (λ (k : ℕ). NotedFrom (a .plate .now) (a .from) k (l .places) (set (l .groups) (l .code) (l .begun * half + k))) all (l .inv .2 .going .noted)),
     )
 
 pub accept-rules-spec : {M : Type 1} → statement M
@@ -164,11 +180,11 @@ accept-rules-spec =
     cast-places
     mul-places
     slice-write-places
-    group-start-requires
-    note-group-requires
+    next-group-requires
     add-i
     loop-less
     loop-again
+    note-group-requires
     same-length-3
     same-length-4
     returns-2)

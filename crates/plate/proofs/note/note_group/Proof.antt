@@ -12,16 +12,13 @@ cast-if1 : tie.Need-cast-if1
 cast-if1 c = search needs
 
 returns : tie.Need-returns
-returns c = let a = c .before .args in sym (set-out (a .groups .now) (a .c) (a .first * half + (a .last + 1)) (omega arith))
+returns c = let a = c .before .args in sym (set-out (a .groups .now) (a .c) (a .first * half + a .behind) (omega arith))
 
 mul-groups : tie.Need-mul-groups
 mul-groups c = search needs
 
 add-groups : tie.Need-add-groups
 add-groups c = search needs
-
-add-groups-2 : tie.Need-add-groups-2
-add-groups-2 c = search needs
 
 cast-groups : tie.Need-cast-groups
 cast-groups c = search needs
@@ -46,7 +43,6 @@ note-group-spec =
     returns
     mul-groups
     add-groups
-    add-groups-2
     cast-groups
     mul-groups-2
     slice-write-groups

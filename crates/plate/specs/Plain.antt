@@ -1,0 +1,15 @@
+-- What the functions on shapes answer: the bits that a part in front of a window takes there, or 0 where it is of another shape. Assumes nothing.
+use Prim.Native.Nat.{ℕ, _+_, _≤_, _<_}
+use mathlib.Core.Path.{_≡_}
+use mathlib.Core.List.{List}
+use Rattle.plate.specs.Window.{Holds}
+use Rattle.plate.specs.declared.Step.{Step}
+use Rattle.plate.specs.declared.Step.the-variants.{To}
+
+-- b is 0, or a part stands b bits long wherever the first p bits of a window stand
+abbrev pub Takes : (List ℕ → ℕ → Step) → ℕ → ℕ → ℕ → Type 0
+Takes step p w b = (b ≡ 0 → ⊥) → (s : List ℕ) (at : ℕ) → Holds s at p w → To (at + b) ≡ step s at
+
+-- an ASCII byte, and not zero, stands in front of a window
+abbrev pub Ascii : ℕ → Type 0
+Ascii w = (72057594037927936 ≤ w) × (w < 9223372036854775808)

@@ -1,0 +1,241 @@
+// Plain rules and foldings, which most are: a pattern of 1 to 6 ASCII bytes, and fields of few alternatives of few digits; a key and a target below the
+// surrogates. Such a shape is a range of the window that it stands in front of. Of any other shape the answer is 0, and accept.rt goes the long way.
+ghost use mathlib.Core.Path.{_≡_};
+ghost use mathlib.Core.Bool.{true};
+ghost use mathlib.Core.List.{List};
+ghost use Prim.Native.Nat.{ℕ, _+_, _*_, _/_, _≤_};
+ghost use lib.ListN.{length};
+ghost use Rattle.plate.specs.Most.{farthest};
+ghost use Rattle.plate.specs.Window.{Holds};
+ghost use Rattle.plate.specs.Answers.{bytesAt, goodText, firstOf, alternativeStep, fieldStep, fieldsStep, keyBehind};
+ghost use Rattle.plate.specs.Plain.{Takes, Ascii};
+ghost use Rattle.plate.specs.declared.Step.the-variants.{To};
+ghost use Rattle.plate.specs.declared.First.the-variants.{Code};
+use super::CHARACTER_BITS;
+use super::window::part;
+use super::window::window_in;
+
+// An ASCII byte, not zero, stands in front of a window.
+fn is_ascii(w: u64) -> bool
+    ensures { λ r. ⌜ (r ≡ true → Ascii w) ⌝ }
+{
+    if w < 0x0100000000000000 {
+        return false;
+    }
+    w < 0x8000000000000000
+}
+
+// So do n such bytes. The loop ends inside its turn: with a test in front LLVM tests twice.
+fn all_ascii(w: u64, n: usize) -> bool
+    requires { ⌜ (1 ≤ n) × (n ≤ 6) ⌝ }
+    ensures { λ r. ⌜ (r ≡ true → Ascii w × ((s : List ℕ) (at : ℕ) → Holds s at (8 * n) w → goodText (bytesAt s n at) ≡ true)) ⌝ }
+{
+    let mut rest = w;
+    let mut left = n;
+    loop {
+        if is_ascii(rest) {
+            left -= 1;
+            if left == 0 {
+                return true;
+            }
+            rest = rest << 8;
+            continue;
+        }
+        return false;
+    }
+}
+
+// The first code point of a pattern of n bytes in front of a window.
+pub(crate) fn plain_code(w: u64, n: usize) -> u32
+    ensures { λ r. ⌜ ((r ≡ 0 → ⊥) → (n ≤ 6) × ((s : List ℕ) (at : ℕ) → Holds s at 48 w → Code r ≡ firstOf (bytesAt s n at))) ⌝ }
+{
+    if n < 1 {
+        return 0;
+    }
+    if 6 < n {
+        return 0;
+    }
+    if all_ascii(w, n) {
+        return (w >> 56) as u32;
+    }
+    0
+}
+
+// A field of one alternative of one digit stands in front of a window: 0001, 001, and a digit of 0 to 9.
+fn is_digit(w: u64) -> bool
+    ensures { λ r. ⌜ (r ≡ true → Takes fieldStep 11 w 11) ⌝ }
+{
+    if w < 0x1200000000000000 {
+        return false;
+    }
+    w < 0x1340000000000000
+}
+
+// So does a field of one alternative without a digit: 0001, 000.
+fn is_empty(w: u64) -> bool
+    ensures { λ r. ⌜ (r ≡ true → Takes fieldStep 11 w 7) ⌝ }
+{
+    if w < 0x1000000000000000 {
+        return false;
+    }
+    w < 0x1200000000000000
+}
+
+// The bits of three such fields, of which the first has a digit: the shape of four rules in five.
+fn quick_fields(w: u64) -> usize
+    ensures { λ r. ⌜ (r ≤ 33) × Takes fieldsStep 33 w r ⌝ }
+{
+    if is_digit(w) {
+        if is_digit(w << 11) {
+            if is_digit(w << 22) {
+                return 33;
+            }
+            if is_empty(w << 22) {
+                return 29;
+            }
+            return 0;
+        }
+        if is_empty(w << 11) {
+            if is_empty(w << 18) {
+                return 25;
+            }
+        }
+    }
+    0
+}
+
+// The bits of an alternative of at most two digits in front of a window.
+fn short_alternative(w: u64) -> usize
+    ensures { λ r. ⌜ (r ≤ 11) × Takes alternativeStep 11 w r ⌝ }
+{
+    if w < 0x2000000000000000 {
+        return 3;
+    }
+    if w < 0x3400000000000000 {
+        return 7;
+    }
+    if w < 0x4000000000000000 {
+        return 0;
+    }
+    if 0x5400000000000000 <= w {
+        return 0;
+    }
+    if (w >> 53) % 16 <= 9 { 11 } else { 0 }
+}
+
+// The bits of a field of one such alternative.
+fn single_field(w: u64) -> usize
+    ensures { λ r. ⌜ (r ≤ 15) × Takes fieldStep 15 w r ⌝ }
+{
+    if is_digit(w) {
+        return 11;
+    }
+    if w >> 60 == 1 {
+        let bits = short_alternative(w << 4);
+        if 0 < bits {
+            return 4 + bits;
+        }
+    }
+    0
+}
+
+// The bits of three such fields.
+fn single_fields(w: u64) -> usize
+    ensures { λ r. ⌜ (r ≤ 45) × Takes fieldsStep 45 w r ⌝ }
+{
+    let start = single_field(w);
+    if start == 0 {
+        return 0;
+    }
+    let vowel = single_field(w << start);
+    if vowel == 0 {
+        return 0;
+    }
+    let other = single_field(w << (start + vowel));
+    if other == 0 {
+        return 0;
+    }
+    start + vowel + other
+}
+
+// The bits of a field of at most four such alternatives.
+pub(crate) fn short_field(w: u64) -> usize
+    ensures { λ r. ⌜ (r ≤ 48) × Takes fieldStep 48 w r ⌝ }
+{
+    let n = (w >> 60) as usize;
+    if n < 1 {
+        return 0;
+    }
+    if 4 < n {
+        return 0;
+    }
+    let mut bits: usize = 4;
+    let mut left = n;
+    while 0 < left {
+        let more = short_alternative(w << bits);
+        if more == 0 {
+            return 0;
+        }
+        bits += more;
+        left -= 1;
+    }
+    bits
+}
+
+// The bits of three such fields at a place. Two of them end no later than 96 bits behind it, and a window lies eight bytes behind.
+fn short_fields(plate: &[u8], at: usize) -> usize
+    requires { ⌜ (at ≤ farthest 1) × (at / 8 + 20 ≤ length (now plate)) ⌝ }
+    ensures { λ r. ⌜ (r ≤ 144) × ((r ≡ 0 → ⊥) → To (at + r) ≡ fieldsStep (now (plate .entry)) at) ⌝ }
+{
+    let start = short_field(window_in(plate, at));
+    if start == 0 {
+        return 0;
+    }
+    let vowel = short_field(window_in(plate, at + start));
+    if vowel == 0 {
+        return 0;
+    }
+    let other = short_field(window_in(plate, at + start + vowel));
+    if other == 0 {
+        return 0;
+    }
+    start + vowel + other
+}
+
+// The bits of the three fields of a plain rule: most have one alternative each, and stand in one window.
+pub(crate) fn plain_fields(plate: &[u8], at: usize) -> usize
+    requires { ⌜ (at ≤ farthest 1) × (at / 8 + 20 ≤ length (now plate)) ⌝ }
+    ensures { λ r. ⌜ (r ≤ 144) × ((r ≡ 0 → ⊥) → To (at + r) ≡ fieldsStep (now (plate .entry)) at) ⌝ }
+{
+    let w = window_in(plate, at);
+    let quick = quick_fields(w);
+    if 0 < quick {
+        return quick;
+    }
+    let bits = single_fields(w);
+    if 0 < bits {
+        return bits;
+    }
+    short_fields(plate, at)
+}
+
+// The key of the folding in front of a window, behind another key.
+pub(crate) fn plain_key(w: u64, before: u32) -> u32
+    ensures { λ r. ⌜ ((r ≡ 0 → ⊥) → (s : List ℕ) (at : ℕ) → Holds s at 42 w → r ≡ keyBehind s at before) ⌝ }
+{
+    let key = part(w, 0, CHARACTER_BITS) as u32;
+    if key <= before {
+        return 0;
+    }
+    if 0xD7FF < key {
+        return 0;
+    }
+    let target = part(w, CHARACTER_BITS, CHARACTER_BITS);
+    if target == 0 {
+        return 0;
+    }
+    if 0xD7FF < target {
+        return 0;
+    }
+    key
+}
