@@ -30,11 +30,13 @@ extern "C" {
 #define DM_PATTERN_MOST 16     /* bytes of a pattern: 5 */
 #define DM_ALTERNATIVES_MOST 8 /* alternatives of a field: 6 */
 #define DM_DIGITS_MOST 6       /* digits of an alternative: 7 */
-#define DM_RULES_MOST 512      /* rules: 8 */
+#define DM_RULES_MOST 1500     /* rules: 8 */
 #define DM_FOLDINGS_MOST 128   /* distinct keys of foldings: 8 */
 
-/* No plate is longer: a buffer of so many bytes takes every plate. */
-#define DM_PLATE_MOST 51428
+/* No plate is longer: a buffer of so many bytes takes every plate. One of at most 512 rules, which is of edition 1, is no longer than the
+ * second; from 513 rules on a plate is of edition 2. Both are accepted, and plates of edition 1 give the codes that they always gave. */
+#define DM_PLATE_MOST 149364
+#define DM_PLATE_MOST_1 51428
 
 /* Limits of a name. */
 #define DM_NAME_MOST 256         /* bytes: 1 */
@@ -74,7 +76,7 @@ static inline const char *dm_words(uint64_t number) {
     case DM_LONG_PATTERN: return "a pattern over 16 bytes";
     case DM_MANY_ALTERNATIVES: return "a field with over 8 alternatives";
     case DM_NOT_DIGITS: return "an alternative that is not 0 to 6 digits";
-    case DM_TOO_MANY: return "over 512 rules, or over 128 folded characters";
+    case DM_TOO_MANY: return "over 1,500 rules, or over 128 folded characters";
     case DM_SHORT_BUFFER: return "the buffer is shorter than the plate";
     case DM_NOT_A_PLATE: return "the plate is damaged or no plate";
     case DM_CHARACTER_NOT_ALLOWED: return "a character that is neither white space nor below U+0180";

@@ -11,7 +11,7 @@ void words(void) {
         "a pattern over 16 bytes",
         "a field with over 8 alternatives",
         "an alternative that is not 0 to 6 digits",
-        "over 512 rules, or over 128 folded characters",
+        "over 1,500 rules, or over 128 folded characters",
         "the buffer is shorter than the plate",
         "the plate is damaged or no plate",
         "a character that is neither white space nor below U+0180",

@@ -10,6 +10,7 @@ use lib.ListN.{length}
 use Rattle.laws.specs.Lists.{every}
 use Rattle.chars.specs.Digits.{isAlternative}
 use Rattle.plate.specs.Plate.{Rule}
+use Rattle.plate.specs.Most.{mostRules}
 use Rattle.book.specs.Book.{when, firstFault, fieldFault, ruleFault}
 
 -- A field without fault has at most 8 alternatives, and each is one.
@@ -52,7 +53,7 @@ not-when false n h e = refl
 pub record Clean (r : Rule) (n : ℕ) : Type 0 where
   pub filled : length (r .pattern) ≡ 0 → ⊥
   pub short : length (r .pattern) ≤ 16
-  pub few : n < 512
+  pub few : n < mostRules
   pub start : fieldFault (r .start) ≡ 0
   pub vowel : fieldFault (r .vowel) ≡ 0
   pub other : fieldFault (r .other) ≡ 0
@@ -62,13 +63,13 @@ pub clean : (r : Rule) (n : ℕ) → ruleFault r n ≡ 0 → Clean r n
 clean r n e =
     let p = length (r .pattern) in
     let front : ℕ → List ℕ = λ (k : ℕ).
-    when (eqb p 0) 4 ∷ when (ltb 16 p) 5 ∷ fieldFault (r .start) ∷ fieldFault (r .vowel) ∷ fieldFault (r .other) ∷ when (leb 512 k) 8 ∷ []
+    when (eqb p 0) 4 ∷ when (ltb 16 p) 5 ∷ fieldFault (r .start) ∷ fieldFault (r .vowel) ∷ fieldFault (r .other) ∷ when (leb mostRules k) 8 ∷ []
     in
     let z = no-fault (front n) e in
     record {
       filled = eqb-false p 0 (not-when (eqb p 0) 4 (lit< tt) (z .0));
       short = ltb-false 16 p (not-when (ltb 16 p) 5 (lit< tt) (z .1 .0));
-      few = leb-false 512 n (not-when (leb 512 n) 8 (lit< tt) (z .1 .1 .1 .1 .1 .0));
+      few = leb-false mostRules n (not-when (leb mostRules n) 8 (lit< tt) (z .1 .1 .1 .1 .1 .0));
       start = z .1 .1 .0;
       vowel = z .1 .1 .1 .0;
       other = z .1 .1 .1 .1 .0;

@@ -11,7 +11,9 @@ use Rattle.laws.specs.Lists.{every, splitAt}
 use Rattle.laws.proofs.Tests.{and-true, both-true, is-between}
 use Rattle.laws.proofs.Splits.{one-part}
 use Rattle.chars.specs.Utf8.{isText}
-use Rattle.plate.specs.Plate.{Folding, Rule, edition1, mostFoldings, goodField, nonzeroByte, goodRule, goodFolding, rising, ordered, goodFoldings, goodRules, goodPlate}
+use Rattle.plate.specs.Plate.{Folding, Rule, mostFoldings, goodField, nonzeroByte, goodRule, goodFolding, rising, ordered, goodFoldings, goodPlate}
+use Rattle.plate.specs.Most.{mostRules}
+use Rattle.plate.proofs.Round.{is-good}
 use Rattle.book.specs.Book.{Book, blank, ruleOf, putRule, putFolding, withRule, withFolding, plateOf, fieldFault, ruleFault, foldingFault}
 use Rattle.book.proofs.Faults.{field-fine, not-when, clean}
 use Rattle.book.proofs.Sorted.{put-ordered, put-every, put-length, put-rising, put-each}
@@ -23,7 +25,7 @@ field-good sep f e =
     both-true (is-between 1 8 (length (splitAt sep f)) (one-part sep f) (leb-true (length (splitAt sep f)) 8 (fine .0))) (fine .1)
 
 rule-good : (sep : ℕ) (p s v o : List ℕ) (n : ℕ) → (isText p ≡ true) × (every nonzeroByte p ≡ true) → ruleFault (ruleOf sep p s v o) n ≡ 0
-    → (goodRule (ruleOf sep p s v o) ≡ true) × (n < 512)
+    → (goodRule (ruleOf sep p s v o) ≡ true) × (n < mostRules)
 rule-good sep p s v o n c e =
     let k = clean (ruleOf sep p s v o) n e in
     let filled = k .filled in (
@@ -34,14 +36,16 @@ rule-good sep p s v o n c e =
 
 -- its plate obeys the table
 pub record Good (b : Book) : Type 0 where
-  pub rules : goodRules (edition1 .most) (b .rules) ≡ true
+  pub few : length (b .rules) ≤ mostRules
+  pub rules : every goodRule (b .rules) ≡ true
+  pub order : ordered (b .rules) ≡ true
   pub foldings : goodFoldings (b .foldings) ≡ true
 
 pub blank-good : Good blank
-blank-good = record { rules = refl; foldings = refl }
+blank-good = record { few = omega arith; rules = refl; order = refl; foldings = refl }
 
-pub plate-good : (flag : Bool) (b : Book) → Good b → goodPlate edition1 (plateOf flag b) ≡ true
-plate-good flag b g = both-true (g .rules) (g .foldings)
+pub plate-good : (flag : Bool) (b : Book) → Good b → goodPlate (plateOf flag b) ≡ true
+plate-good flag b g = is-good (plateOf flag b) (record { few = g .few; rules = g .rules; order = g .order; foldings = g .foldings })
 
 pub with-rule-good : (sep : ℕ) (p s v o : List ℕ) (b : Book) → (isText p ≡ true) × (every nonzeroByte p ≡ true)
     → ruleFault (ruleOf sep p s v o) (length (b .rules)) ≡ 0 → Good b → Good (withRule (ruleOf sep p s v o) b)
@@ -50,12 +54,10 @@ with-rule-good sep p s v o b c e g =
     let l = b .rules in
     let k = rule-good sep p s v o (length l) c e in
     let h = k .1 in
-    let x = and-true (leb (length l) 512) (every goodRule l && ordered l) (g .rules) in
-    let y = and-true (every goodRule l) (ordered l) (x .1) in
     record {
-      rules =
-          both-true (le-leb (length (putRule r l)) 512 (omega (arith, put-length r l)))
-          (both-true (put-every goodRule r l (k .0) (y .0)) (put-ordered r l (y .1)));
+      few = omega (arith, h, put-length r l);
+      rules = put-every goodRule r l (k .0) (g .rules);
+      order = put-ordered r l (g .order);
       foldings = g .foldings;
     }
 
@@ -66,4 +68,4 @@ with-folding-good f b g e k =
     let few = ltb-false mostFoldings n (not-when (ltb mostFoldings n) 8 (lit< tt) e) in
     let x = and-true (leb (length l) mostFoldings) (every goodFolding l && rising l) (k .foldings) in
     let y = and-true (every goodFolding l) (rising l) (x .1) in
-    record { rules = k .rules; foldings = both-true (le-leb n 128 few) (both-true (put-each goodFolding f l g (y .0)) (put-rising f l (y .1))) }
+    record { few = k .few; rules = k .rules; order = k .order; foldings = both-true (le-leb n 128 few) (both-true (put-each goodFolding f l g (y .0)) (put-rising f l (y .1))) }

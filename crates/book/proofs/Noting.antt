@@ -10,6 +10,8 @@ use lib.Seq.{length-take-le}
 use Rattle.laws.specs.Lists.{cat}
 use Rattle.plate.specs.Plate.{Folding, Rule, firstCode, rising}
 use Rattle.plate.specs.Written.{ruleBits}
+use Rattle.plate.specs.Plate.{mostFoldings}
+use Rattle.plate.specs.Most.{mostRules}
 use Rattle.book.specs.Book.{Book, blank, foldingOf, putRule, putFolding, withRule, withFolding, when, ruleFault, foldingFault}
 use Rattle.book.specs.Sort.{Rising, insert, putPair, foldingIn, AllSmall, PairsHeld, PutIs}
 use Rattle.book.specs.Note.{key, keyOf, placeIn, rulesIn, Sure, AllSure, bookOf, KeysHeld, Kept, noneNoted, flawNumber, ruled, folded, RuleIs, RuleIn, FoldingNoted}
@@ -28,7 +30,7 @@ use Rattle.book.proofs.Keys.{key-place, all-later, all-insert, put-view
 
 -- ---- nothing is noted
 
-pub none-kept : (view : ℕ → Rule) (at : ℕ) (keys foldings : List ℕ) → length keys ≡ 512 → length foldings ≡ 128 → Kept view at noneNoted keys foldings
+pub none-kept : (view : ℕ → Rule) (at : ℕ) (keys foldings : List ℕ) → length keys ≡ mostRules → length foldings ≡ mostFoldings → Kept view at noneNoted keys foldings
 none-kept view at keys foldings k f =
     record {
       rules = record { few = omega arith; room = k; sorted = tt; fewBits = omega arith };

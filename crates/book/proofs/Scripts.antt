@@ -9,12 +9,14 @@ use lib.Seq.{length-take-le, drop-drop}
 use Rattle.laws.specs.Lists.{cat}
 use Rattle.plate.specs.Bits.{bitsOf, pack}
 use Rattle.plate.specs.Plate.{Rule}
-use Rattle.plate.specs.Written.{flagBit, fieldBits, ruleBits, foldingBits}
-use Rattle.plate.proofs.Packed.{length-bitsOf}
+use Rattle.plate.specs.Written.{flagBit, fieldBits, ruleBits, foldingBits, headOf}
+use Rattle.plate.specs.Answers.{HeadIs}
+use Rattle.plate.specs.declared.edition.Head.{Head}
+use Rattle.plate.proofs.Round.{head-length}
 use Rattle.book.specs.Pen.{begin, bitsIn, Ready, Wrote, Stored, Finished}
 use Rattle.book.specs.Sort.{foldingIn}
 use Rattle.book.specs.Note.{placeIn, rulesIn, bookOf, Kept}
-use Rattle.book.specs.Writing.{runBits, headOf, bytesOf}
+use Rattle.book.specs.Writing.{runBits, headWith, bytesOf}
 use Rattle.book.specs.declared.pen.Pen.{Pen}
 use Rattle.book.specs.declared.Tally.{Tally}
 use Rattle.book.proofs.Inks.{wrote-then, ready-first, ready-then, ready-as, wrote-as, pack-length}
@@ -76,12 +78,16 @@ module _ (q : Rule) {out : List ℕ} {pen : Pen} (r : Ready out pen (ruleBits q)
 
 -- ---- the head
 
-module _ (rules foldings : ℕ) (flag : Bool) {out : List ℕ} {pen : Pen} (r : Ready out pen (headOf rules foldings flag)) where
+-- The head that plate tells of so many rules is theirs.
+pub told-head : (rules foldings : ℕ) (flag : Bool) (h : Head) → HeadIs rules h → headWith (h .number) (h .width) rules foldings flag ≡ headOf rules foldings flag
+told-head rules foldings flag h t = ap₂ (λ (n w : ℕ). headWith n w rules foldings flag) (t .number) (t .width)
+
+module _ (number width rules foldings : ℕ) (flag : Bool) {out : List ℕ} {pen : Pen} (r : Ready out pen (headWith number width rules foldings flag)) where
   abbrev H1 : List ℕ
-  H1 = bitsOf 8 1
+  H1 = bitsOf 8 number
 
   abbrev H2 : List ℕ
-  H2 = bitsOf 10 rules
+  H2 = bitsOf width rules
 
   abbrev H3 : List ℕ
   H3 = bitsOf 8 foldings
@@ -90,25 +96,38 @@ module _ (rules foldings : ℕ) (flag : Bool) {out : List ℕ} {pen : Pen} (r : 
   H4 = bitsOf 1 (flagBit flag)
 
   abbrev H5 : List ℕ
-  H5 = bitsOf 5 0
+  H5 = bitsOf (15 - width) 0
 
-  module _ {out₁ : List ℕ} {pen₁ : Pen} (w₁ : Wrote out pen (bitsOf 8 1) out₁ pen₁) where
-    ready-from-2 : Ready out₁ pen₁ (H2 ++ (H3 ++ (H4 ++ H5)))
-    ready-from-2 = ready-then H1 (H2 ++ (H3 ++ (H4 ++ H5))) r w₁
+  pub ready-number : Ready out pen (bitsOf 8 number)
+  ready-number = ready-first H1 (H2 ++ (H3 ++ (H4 ++ H5))) r
 
-    module _ {out₂ : List ℕ} {pen₂ : Pen} (w₂ : Wrote out₁ pen₁ (bitsOf 10 rules) out₂ pen₂) where
-      ready-from-3 : Ready out₂ pen₂ (H3 ++ (H4 ++ H5))
-      ready-from-3 = ready-then H2 (H3 ++ (H4 ++ H5)) ready-from-2 w₂
+  module _ {out₁ : List ℕ} {pen₁ : Pen} (w₁ : Wrote out pen (bitsOf 8 number) out₁ pen₁) where
+    from-2 : Ready out₁ pen₁ (H2 ++ (H3 ++ (H4 ++ H5)))
+    from-2 = ready-then H1 (H2 ++ (H3 ++ (H4 ++ H5))) r w₁
+
+    pub ready-rules : Ready out₁ pen₁ (bitsOf width rules)
+    ready-rules = ready-first H2 (H3 ++ (H4 ++ H5)) from-2
+
+    module _ {out₂ : List ℕ} {pen₂ : Pen} (w₂ : Wrote out₁ pen₁ (bitsOf width rules) out₂ pen₂) where
+      from-3 : Ready out₂ pen₂ (H3 ++ (H4 ++ H5))
+      from-3 = ready-then H2 (H3 ++ (H4 ++ H5)) from-2 w₂
+
+      pub ready-foldings : Ready out₂ pen₂ (bitsOf 8 foldings)
+      ready-foldings = ready-first H3 (H4 ++ H5) from-3
 
       module _ {out₃ : List ℕ} {pen₃ : Pen} (w₃ : Wrote out₂ pen₂ (bitsOf 8 foldings) out₃ pen₃) where
-        ready-from-4 : Ready out₃ pen₃ (H4 ++ H5)
-        ready-from-4 = ready-then H3 (H4 ++ H5) ready-from-3 w₃
+        from-4 : Ready out₃ pen₃ (H4 ++ H5)
+        from-4 = ready-then H3 (H4 ++ H5) from-3 w₃
+
+        pub ready-flag : Ready out₃ pen₃ (bitsOf 1 (flagBit flag))
+        ready-flag = ready-first H4 H5 from-4
 
         module _ {out₄ : List ℕ} {pen₄ : Pen} (w₄ : Wrote out₃ pen₃ (bitsOf 1 (flagBit flag)) out₄ pen₄) where
-          pub ready-zeros : Ready out₄ pen₄ (bitsOf 5 0)
-          ready-zeros = ready-then H4 H5 ready-from-4 w₄
+          pub ready-zeros : Ready out₄ pen₄ (bitsOf (15 - width) 0)
+          ready-zeros = ready-then H4 H5 from-4 w₄
 
-          pub wrote-head : {out₅ : List ℕ} {pen₅ : Pen} → Wrote out₄ pen₄ (bitsOf 5 0) out₅ pen₅ → Wrote out pen (headOf rules foldings flag) out₅ pen₅
+          pub wrote-head : {out₅ : List ℕ} {pen₅ : Pen} → Wrote out₄ pen₄ (bitsOf (15 - width) 0) out₅ pen₅
+              → Wrote out pen (headWith number width rules foldings flag) out₅ pen₅
           wrote-head w₅ =
               wrote-then H1 (H2 ++ (H3 ++ (H4 ++ H5))) w₁ (wrote-then H2 (H3 ++ (H4 ++ H5)) w₂ (wrote-then H3 (H4 ++ H5) w₃ (wrote-then H4 H5 w₄ w₅)))
 
@@ -130,23 +149,18 @@ module _ (view : ℕ → Rule) {at : ℕ} (tally : Tally) (keys foldings : List 
   foldings-length : length (map foldingIn (take (tally .foldings) foldings)) ≡ tally .foldings
   foldings-length = let n = k .pairs .few in let m = k .pairs .room in length-map (take (tally .foldings) foldings) foldingIn ∙ length-take-le (tally .foldings) foldings (omega arith)
 
-  head-length : length H ≡ 32
-  head-length =
-      length-append (bitsOf 8 1) (bitsOf 10 (tally .rules) ++ (bitsOf 8 (tally .foldings) ++ (bitsOf 1 (flagBit flag) ++ bitsOf 5 0)))
-      ∙ omega (
-        arith,
-        length-append (bitsOf 10 (tally .rules)) (bitsOf 8 (tally .foldings) ++ (bitsOf 1 (flagBit flag) ++ bitsOf 5 0)),
-        length-bitsOf 10
-            (tally .rules),
-        length-append (bitsOf 8 (tally .foldings)) (bitsOf 1 (flagBit flag) ++ bitsOf 5 0),
-        length-bitsOf 8 (tally .foldings),
-      )
-
   bits-length : length (H ++ (F ++ R)) ≡ 32 + 42 * tally .foldings + tally .bits
   bits-length =
       length-append H (F ++ R)
-      ∙ omega
-      (arith, head-length, length-append F R, k .bits, cat-length foldingBits 42 folding-length (map foldingIn (take (tally .foldings) foldings)), foldings-length)
+      ∙ omega (
+        arith,
+        head-length (tally .rules) (tally .foldings) flag,
+        length-append F R,
+        k .bits,
+        cat-length foldingBits 42 folding-length (map foldingIn (take
+            (tally .foldings) foldings)),
+        foldings-length,
+      )
 
   plate-is : pack (H ++ (F ++ R)) ≡ bytesOf flag (bookOf view tally keys foldings)
   plate-is = ap₂ (λ (m n : ℕ). pack (headOf m n flag ++ (F ++ R))) (sym rules-length) (sym foldings-length)

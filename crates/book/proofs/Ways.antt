@@ -8,6 +8,7 @@ use borrow.Author.Tests.{eq-eqb, ne-eqb, lt-ltb, le-ltb, le-leb, lt-leb}
 use lib.Dec.{ltb, leb, eqb}
 use lib.ListN.{length}
 use Rattle.plate.specs.Plate.{Rule}
+use Rattle.plate.specs.Most.{mostRules}
 use Rattle.book.specs.Book.{when, firstFault, fieldFault, ruleFault}
 use Rattle.book.specs.Note.{flawNumber, FieldIs, RuleIs}
 use Rattle.book.specs.declared.Flaw.{Flaw}
@@ -44,7 +45,7 @@ module _ (r : Rule) (n : ℕ) where
   long = when (ltb 16 (length (r .pattern))) 5
 
   abbrev full : ℕ
-  full = when (leb 512 n) 8
+  full = when (leb mostRules n) 8
 
   abbrev fields : List ℕ
   fields = fieldFault (r .start) ∷ fieldFault (r .vowel) ∷ fieldFault (r .other) ∷ full ∷ []
@@ -84,8 +85,8 @@ module _ (r : Rule) (n : ℕ) where
           other-wrong w f e = subst (RuleIs r n) (sym e) (voiced ∙ lead (fieldFault (r .other)) (full ∷ []) w (subst (FieldIs (r .other)) e f))
 
           module _ (zo : fieldFault (r .other) ≡ 0) where
-            pub rule-full : 512 ≤ n → ruleFault r n ≡ 8
-            rule-full j = voiced ∙ pass (fieldFault (r .other)) (full ∷ []) zo ∙ lead full [] TooMany (whenSo (leb 512 n) 8 (le-leb 512 n j))
+            pub rule-full : mostRules ≤ n → ruleFault r n ≡ 8
+            rule-full j = voiced ∙ pass (fieldFault (r .other)) (full ∷ []) zo ∙ lead full [] TooMany (whenSo (leb mostRules n) 8 (le-leb mostRules n j))
 
-            pub rule-fine : n < 512 → ruleFault r n ≡ 0
-            rule-fine j = voiced ∙ pass (fieldFault (r .other)) (full ∷ []) zo ∙ pass full [] (whenNot (leb 512 n) 8 (lt-leb 512 n j))
+            pub rule-fine : n < mostRules → ruleFault r n ≡ 0
+            rule-fine j = voiced ∙ pass (fieldFault (r .other)) (full ∷ []) zo ∙ pass full [] (whenNot (leb mostRules n) 8 (lt-leb mostRules n j))

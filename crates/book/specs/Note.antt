@@ -5,7 +5,8 @@ use mathlib.Core.Path.{_≡_}
 use mathlib.Core.List.{List, [], _∷_, _++_, map}
 use lib.ListN.{length, take, drop}
 use Rattle.laws.specs.Lists.{cat}
-use Rattle.plate.specs.Plate.{Rule, firstCode, edition1, mostFoldings}
+use Rattle.plate.specs.Plate.{Rule, firstCode, mostFoldings}
+use Rattle.plate.specs.Most.{mostRules}
 use Rattle.plate.specs.Written.{fieldBits, ruleBits}
 use Rattle.book.specs.Book.{Book, fieldFault, ruleFault}
 use Rattle.book.specs.Sort.{Rising, insert, putPair, foldingIn, PairsHeld}
@@ -49,8 +50,8 @@ bookOf view tally keys foldings = record { foldings = map foldingIn (take (tally
 
 -- the numbers of the rules stand in order, and no more bits are counted than so many rules can take
 pub record KeysHeld (tally : Tally) (keys : List ℕ) : Type 0 where
-  pub few : tally .rules ≤ edition1 .most
-  pub room : length keys ≡ edition1 .most
+  pub few : tally .rules ≤ mostRules
+  pub room : length keys ≡ mostRules
   pub sorted : Rising (take (tally .rules) keys)
   pub fewBits : tally .bits ≤ 793 * tally .rules
 

@@ -5,8 +5,8 @@ use Rattle.laws.specs.Lists.{splitAt}
 use Rattle.chars.specs.Quoted.{bytes}
 use Rattle.book.specs.Book.{ruleOf, ruleFault}
 
--- 8: "rule 513", when 512 stand before it; a bad field comes first
-pub full : (ruleFault (ruleOf 124 (bytes "a") [] [] []) 511 ≡ 0) × (ruleFault (ruleOf 124 (bytes "a") [] [] []) 512 ≡ 8) × (ruleFault (ruleOf 124 (bytes "a") [] [] (bytes "x")) 512 ≡ 7)
+-- 8: "rule 1,501", when 1,500 stand before it; a bad field comes first
+pub full : (ruleFault (ruleOf 124 (bytes "a") [] [] []) 1499 ≡ 0) × (ruleFault (ruleOf 124 (bytes "a") [] [] []) 1500 ≡ 8) × (ruleFault (ruleOf 124 (bytes "a") [] [] (bytes "x")) 1500 ≡ 7)
 unfolding splitAt
 full = (refl, refl, refl)
 

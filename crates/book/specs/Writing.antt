@@ -4,7 +4,7 @@ use mathlib.Core.Bool.{Bool}
 use mathlib.Core.List.{List, [], _∷_, _++_}
 use Rattle.laws.specs.Lists.{cat}
 use Rattle.plate.specs.Bits.{bitsOf}
-use Rattle.plate.specs.Plate.{edition1}
+use Rattle.plate.specs.Plate.{mostFoldings}
 use Rattle.plate.specs.Written.{flagBit, plateBytes}
 use Rattle.book.specs.Book.{Book, plateOf}
 
@@ -17,10 +17,17 @@ abbrev pub Fitting : ℕ → ℕ → List ℕ → Type 0
 Fitting less width [] = Unit {0}
 Fitting less width (b ∷ bs) = ((less ≤ b) × (b - less < 2 ^ width)) × Fitting less width bs
 
--- the head of a plate of edition 1
-abbrev pub headOf : ℕ → ℕ → Bool → List ℕ
-headOf rules foldings flag = bitsOf 8 1 ++ (bitsOf 10 rules ++ (bitsOf 8 foldings ++ (bitsOf 1 (flagBit flag) ++ bitsOf 5 0)))
+-- the head of a plate, whose number and whose width of the rule count are told
+abbrev pub headWith : ℕ → ℕ → ℕ → ℕ → Bool → List ℕ
+headWith number width rules foldings flag = bitsOf 8 number ++ (bitsOf width rules ++ (bitsOf 8 foldings ++ (bitsOf 1 (flagBit flag) ++ bitsOf (15 - width) 0)))
+
+-- each part of a head has room
+pub record HeadFits (number width rules foldings : ℕ) : Type 0 where
+  pub byte : number < 256
+  pub narrow : width ≤ 15
+  pub room : rules < 2 ^ width
+  pub few : foldings ≤ mostFoldings
 
 -- the plate of a book
 abbrev pub bytesOf : Bool → Book → List ℕ
-bytesOf flag b = plateBytes edition1 (plateOf flag b)
+bytesOf flag b = plateBytes (plateOf flag b)

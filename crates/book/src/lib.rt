@@ -6,11 +6,6 @@ pub mod note; // note.rt: a rule or a folding noted, or what is wrong with it
 pub mod pen; // pen.rt: bits written one behind the other
 pub mod write; // write.rt: what is noted, as a plate's bits
 
-// The most rules and foldings: so long are the arrays in which they are noted.
-pub const MOST_RULES: usize = 512;
-
-pub const MOST_FOLDINGS: usize = 128;
-
 // A rule's place is below this.
 pub const PLACES: u64 = 65536;
 

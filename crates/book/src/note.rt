@@ -11,7 +11,6 @@ ghost use Rattle.book.specs.Note.{key, FieldIs, RuleIs, KeysHeld, RuleNo
 use super::Alternatives;
 use super::Flaw;
 use super::LONGEST_PATTERN;
-use super::MOST_RULES;
 use super::Noted;
 use super::PLACES;
 use super::Tally;
@@ -21,6 +20,7 @@ use super::sort::insert_key;
 use super::sort::put_folding;
 use chars::Char;
 use chars::utf8::char_at;
+use plate::MOST_RULES;
 
 // A field or a rule: the bits that it takes on the plate, or its first fault.
 pub enum Judged {

@@ -6,17 +6,20 @@ ghost use Prim.Native.Nat.{_≤_, _<_};
 ghost use lib.ListN.{length, take};
 ghost use Rattle.laws.specs.Lists.{every, cat, splitAt};
 ghost use Rattle.chars.specs.Digits.{isAlternative};
-ghost use Rattle.plate.specs.Written.{flagBit, alternativeBits, fieldBits, foldingBits, ruleBits};
+ghost use Rattle.plate.specs.Plate.{mostFoldings};
+ghost use Rattle.plate.specs.Most.{mostRules};
+ghost use Rattle.plate.specs.Written.{flagBit, alternativeBits, fieldBits, foldingBits, ruleBits, headOf};
 ghost use Rattle.book.specs.Book.{ruleOf, fieldFault, ruleFault};
 ghost use Rattle.book.specs.Pen.{Ready, Wrote};
 ghost use Rattle.book.specs.Sort.{foldingIn, Small, AllSmall};
-ghost use Rattle.book.specs.Writing.{runBits, Fitting, headOf};
+ghost use Rattle.book.specs.Writing.{runBits, Fitting, HeadFits, headWith};
 use super::Alternatives;
 use super::TARGETS;
 use super::field::alternative_end;
 use super::field::parse_branch;
 use super::pen::Pen;
 use super::pen::put;
+use plate::edition::head_of;
 
 fn wide(b: u8) -> u64
     ensures { λ r. ⌜ (r ≡ b) × (r ≤ 255) ⌝ }
@@ -125,14 +128,39 @@ fn bit(flag: bool) -> u64
     if flag { 1 } else { 0 }
 }
 
-// 01: "8 bits edition 1; 10 bits rule count; 8 bits folding count; 1 bit folding flag; 5 zero bits".
-pub fn put_head(out: &mut [u8], pen: Pen, rules: usize, foldings: usize, flag: bool) -> Pen
-    requires { ⌜ (rules ≤ 512) × (foldings ≤ 128) × Ready (now out) pen (headOf rules foldings flag) ⌝ }
-    ensures { λ r. ⌜ Wrote (now (out .entry)) pen (headOf rules foldings flag) (now (out .exit)) r ⌝ }
+// 01: "8 bits edition 1; 10 bits rule count; 8 bits folding count; 1 bit folding flag; 5 zero bits"; the number and the count's width are the edition's.
+fn put_counts(
+    out: &mut [u8],
+    pen: Pen,
+    number: u64,
+    width: usize,
+    rules: usize,
+    foldings: usize,
+    flag: bool,
+) -> Pen
+    requires { ⌜ HeadFits number width rules foldings × Ready (now out) pen (headWith number width rules foldings flag) ⌝ }
+    ensures { λ r. ⌜ Wrote (now (out .entry)) pen (headWith number width rules foldings flag) (now (out .exit)) r ⌝ }
 {
-    let first = put(out, pen, 8, 1);
-    let second = put(out, first, 10, rules as u64);
+    let first = put(out, pen, 8, number);
+    let second = put(out, first, width, rules as u64);
     let third = put(out, second, 8, foldings as u64);
     let fourth = put(out, third, 1, bit(flag));
-    put(out, fourth, 5, 0)
+    put(out, fourth, 15 - width, 0)
+}
+
+// The head of a plate of so many rules and foldings.
+pub fn put_head(out: &mut [u8], pen: Pen, rules: usize, foldings: usize, flag: bool) -> Pen
+    requires { ⌜ (rules ≤ mostRules) × (foldings ≤ mostFoldings) × Ready (now out) pen (headOf rules foldings flag) ⌝ }
+    ensures { λ r. ⌜ Wrote (now (out .entry)) pen (headOf rules foldings flag) (now (out .exit)) r ⌝ }
+{
+    let head = head_of(rules);
+    put_counts(
+        out,
+        pen,
+        head.number as u64,
+        head.width,
+        rules,
+        foldings,
+        flag,
+    )
 }

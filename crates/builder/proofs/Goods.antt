@@ -17,11 +17,11 @@ use Rattle.rule_text.specs.Items.{Saying, Item, items}
 use Rattle.rule_text.specs.Items.Saying.{RuleItem, FoldingItem, LineEndItem, CommentItem, UnknownItem}
 use Rattle.rule_text.specs.Fields.{bar}
 use Rattle.rule_text.proofs.Clean.{Clean, AllClean, items-clean}
-use Rattle.plate.specs.Plate.{edition1, nonzeroByte, goodPlate}
+use Rattle.plate.specs.Plate.{nonzeroByte, goodPlate}
 use Rattle.plate.specs.Written.{plateBytes}
-use Rattle.plate.specs.Read.{acceptedIn, readPlate}
+use Rattle.plate.specs.Read.{accepted, readPlate}
 use Rattle.plate.proofs.Packed.{Bytes}
-use Rattle.plate.proofs.Round.{edition1-reads, edition1-accepted}
+use Rattle.plate.proofs.Round.{plate-reads, plate-accepted}
 use Rattle.book.specs.Book.{Book, blank, foldingOf, plateOf}
 use Rattle.book.proofs.Goods.{Good, blank-good, plate-good, with-rule-good, with-folding-good}
 use Rattle.builder.specs.Build.{longestText, enter, fault, Verdict, unless, verdict, Built, refusal, answered, nonzero, buildAnswer}
@@ -67,7 +67,7 @@ text-fair text bytes h =
 
 -- A text without fault says a good plate.
 pub build-good : (text : List ℕ) → Bytes text → isText text && every nonzero text ≡ true → (b : Book) → verdict blank (items text) ≡ Fine b
-    → (flag : Bool) → goodPlate edition1 (plateOf flag b) ≡ true
+    → (flag : Bool) → goodPlate (plateOf flag b) ≡ true
 build-good text bytes h b e flag = plate-good flag b (subst Fair e (text-fair text bytes h))
 
 -- What an answer of build says: with number 0 the text has no fault, and the bytes written are accepted and read back as the plate that the text says.
@@ -76,7 +76,7 @@ Accepted text flag a =
     a .number ≡ 0
     → (b : Book)
     × (verdict blank (items text) ≡ Fine b)
-    × (acceptedIn edition1 (take (a .length) (a .buffer)) ≡ true)
+    × (accepted (take (a .length) (a .buffer)) ≡ true)
     × (readPlate (take (a .length) (a .buffer)) ≡ some (plateOf flag b))
 
 -- What build writes is accepted, and reads back as what the text says.
@@ -91,8 +91,8 @@ build-accepted text flag lent bytes =
     go (Faulty number place) e f = λ n. absurd (f n)
     go (Fine b) e f =
         let p = plateOf flag b in
-        let s = plateBytes edition1 p in
-        let good : goodPlate edition1 p ≡ true = plate-good flag b f in
+        let s = plateBytes p in
+        let good : goodPlate p ≡ true = plate-good flag b f in
         let same = take-append-seam s (drop (length s) lent) in
         by-test (Accepted text flag) (ltb (length lent) (length s)) (refusal 9 0 lent) _ (λ h n. absurd (omega arith))
-        (λ h n. (b, e, ap (acceptedIn edition1) same ∙ edition1-accepted p good, ap readPlate same ∙ edition1-reads p good))
+        (λ h n. (b, e, ap accepted same ∙ plate-accepted p good, ap readPlate same ∙ plate-reads p good))

@@ -15,7 +15,8 @@ use Rattle.rule_text.specs.declared.Four.{Four}
 use Rattle.rule_text.specs.declared.Entry.{Entry}
 use Rattle.rule_text.specs.declared.Entry.the-variants as E
 use Rattle.rule_text.proofs.Walk as Walk
-use Rattle.plate.specs.Plate.{Rule}
+use Rattle.plate.specs.Plate.{Rule, mostFoldings}
+use Rattle.plate.specs.Most.{mostRules}
 use Rattle.book.specs.Book.{Book, foldingOf, ruleFault}
 use Rattle.book.specs.Note.{bookOf, Kept, noneNoted, RuleNoted, FoldingNoted}
 use Rattle.book.specs.declared.Tally.{Tally}
@@ -57,7 +58,7 @@ module _ (b : Book) (i : Item) (more is : List Item) (e : is ≡ i ∷ more) whe
 
 -- ---- the start and the end
 
-pub survey-start : (text keys foldings : List ℕ) → length text ≤ 65536 → length keys ≡ 512 → length foldings ≡ 128 → SoFar text 0 noneNoted keys foldings
+pub survey-start : (text keys foldings : List ℕ) → length text ≤ 65536 → length keys ≡ mostRules → length foldings ≡ mostFoldings → SoFar text 0 noneNoted keys foldings
 survey-start text keys foldings h k f = record { short = h; within = omega arith; noted = none-kept (view text) 0 keys foldings k f }
 
 module _ (text : List ℕ) (at : ℕ) (tally : Tally) (keys foldings : List ℕ) (k : SoFar text at tally keys foldings) where

@@ -10,7 +10,6 @@ use Rattle.chars.specs.Utf8.{isText}
 use Rattle.rule_text.specs.Items.{Saying, Item, items, lineOf}
 use Rattle.rule_text.specs.Items.Saying.{RuleItem, FoldingItem, LineEndItem, CommentItem, UnknownItem}
 use Rattle.rule_text.specs.Fields.{bar}
-use Rattle.plate.specs.Plate.{edition1}
 use Rattle.plate.specs.Written.{plateBytes}
 use Rattle.book.specs.Book.{Book, blank, withRule, withFolding, ruleOf, foldingOf, ruleFault, foldingFault, plateOf}
 
@@ -23,7 +22,7 @@ enter LineEndItem b = b
 enter CommentItem b = b
 enter UnknownItem b = b
 
--- the fault of an item behind those in the book, 0 for none; 3: "an item of rule text is not recognised"; 8: "rule 513, or the 129th distinct folding key"
+-- the fault of an item behind those in the book, 0 for none; 3: "an item of rule text is not recognised"; 8: "rule 1,501 or, as before, the 129th key"
 abbrev pub fault : Saying → Book → ℕ
 fault (RuleItem p s v o) b = ruleFault (ruleOf bar p s v o) (length (b .rules))
 fault (FoldingItem key target) b = foldingFault (foldingOf key target) (b .foldings)
@@ -66,7 +65,7 @@ delivered plate lent =
 -- 02, M-102: "The line is from now on 1 plus the newlines before the faulty item's first byte."
 abbrev pub answered : List ℕ → Bool → List ℕ → Verdict → Built
 answered text flag lent (Faulty number place) = refusal number (lineOf text place) lent
-answered text flag lent (Fine b) = delivered (plateBytes edition1 (plateOf flag b)) lent
+answered text flag lent (Fine b) = delivered (plateBytes (plateOf flag b)) lent
 
 abbrev pub nonzero : ℕ → Bool
 nonzero b = ltb 0 b

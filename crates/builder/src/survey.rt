@@ -4,6 +4,8 @@ ghost use Prim.Native.Nat.{_≤_, _<_};
 ghost use lib.ListN.{length};
 ghost use Rattle.rule_text.specs.Items.{items};
 ghost use Rattle.rule_text.specs.Answers.{FourIn};
+ghost use Rattle.plate.specs.Plate.{mostFoldings};
+ghost use Rattle.plate.specs.Most.{mostRules};
 ghost use Rattle.book.specs.Book.{blank};
 ghost use Rattle.book.specs.Note.{KeysHeld, RuleNoted};
 ghost use Rattle.builder.specs.Build.{verdict};
@@ -71,7 +73,7 @@ fn enter(text: &[u8], keys: &mut [u64], foldings: &mut [u64], at: usize, tally: 
 
 // All items of a text.
 pub(crate) fn survey(text: &[u8], keys: &mut [u64], foldings: &mut [u64]) -> Surveyed
-    requires { ⌜ (length (now text) ≤ 65536) × (length (now keys) ≡ 512) × (length (now foldings) ≡ 128) ⌝ }
+    requires { ⌜ (length (now text) ≤ 65536) × (length (now keys) ≡ mostRules) × (length (now foldings) ≡ mostFoldings) ⌝ }
     ensures { λ r. ⌜ SurveyIs (now (text .entry)) (now (keys .exit)) (now (foldings .exit)) (verdict blank (items (now (text .entry)))) r ⌝ }
 {
     let mut at: usize = 0;

@@ -10,8 +10,8 @@ use lib.ListN.{length, length-map}
 use Rattle.laws.specs.Lists.{every, same}
 use Rattle.laws.specs.Once.{once}
 use Rattle.chars.specs.Utf8.{isText, charsOf, badPlace, failPlace}
-use Rattle.plate.specs.Plate.{Plate, edition1}
-use Rattle.plate.specs.Read.{plateAt, acceptedIn}
+use Rattle.plate.specs.Plate.{Plate}
+use Rattle.plate.specs.Read.{plateIn, accepted}
 use Rattle.branches.specs.Branches.{Branch, Use, start, run, over, code, codes}
 use Rattle.branches.specs.Room.{outcome}
 use Rattle.branches.proofs.Room.{run-fits}
@@ -73,26 +73,26 @@ abbrev pub judged : Bool → Bool → Bool → ℕ → ℕ → List ℕ → Name
 judged long text fine foreign broken cs = cond long (Refused 1 0) (cond text (cond fine (Chars cs) (Refused 11 foreign)) (Refused 2 broken))
 
 module _ (most : ℕ) (s name lent : List ℕ) where
-  pub no-plate : acceptedIn edition1 s ≡ false → codeAnswer most s name lent ≡ noCodes 10 lent
+  pub no-plate : accepted s ≡ false → codeAnswer most s name lent ≡ noCodes 10 lent
   unfolding codeAnswer
-  no-plate h = ap (λ (t : Bool). plated (listedTo most) (cond t (some (plateAt (edition1 .width) s)) none) name lent) h
+  no-plate h = ap (λ (t : Bool). plated (listedTo most) (cond t (some (plateIn s)) none) name lent) h
 
-  pub by-plate : acceptedIn edition1 s ≡ true → codeAnswer most s name lent ≡ codedBy (listedTo most) (plateAt (edition1 .width) s) name lent
+  pub by-plate : accepted s ≡ true → codeAnswer most s name lent ≡ codedBy (listedTo most) (plateIn s) name lent
   unfolding codeAnswer
-  by-plate h = ap (λ (t : Bool). plated (listedTo most) (cond t (some (plateAt (edition1 .width) s)) none) name lent) h
+  by-plate h = ap (λ (t : Bool). plated (listedTo most) (cond t (some (plateIn s)) none) name lent) h
 
 module _ (s name lent : List ℕ) where
   abbrev plate : Plate
-  plate = plateAt (edition1 .width) s
+  plate = plateIn s
 
   abbrev used : List Use
   used = uses (plate .rules) (prepared plate name)
 
   -- The answer depends on a call by the uses of the name alone.
-  same-call : (most : ℕ) (call : List Use → List ℕ → Coded) → (acceptedIn edition1 s ≡ true → listedTo most used lent ≡ call used lent)
-      → codeAnswer most s name lent ≡ plated call (cond (acceptedIn edition1 s) (some plate) none) name lent
+  same-call : (most : ℕ) (call : List Use → List ℕ → Coded) → (accepted s ≡ true → listedTo most used lent ≡ call used lent)
+      → codeAnswer most s name lent ≡ plated call (cond (accepted s) (some plate) none) name lent
   unfolding codeAnswer
-  same-call most call h = go (acceptedIn edition1 s) h
+  same-call most call h = go (accepted s) h
     where
       by-name : (long text fine : Bool) → listedTo most used lent ≡ call used lent
           → answered (listedTo most) (plate .rules) (judged long text fine (failPlace allowed name) (badPlace name) (prepared plate name)) lent
@@ -111,7 +111,7 @@ module _ (s name lent : List ℕ) where
   unfolding listAnswer
   list-is =
       same-call 8 listed
-      (λ h. ap (λ (us : List Use). listed us lent) (cut-eight used (uses-good (plate .rules) (rules-good edition1 s h) (rules-ordered edition1 s h) (prepared plate name))))
+      (λ h. ap (λ (us : List Use). listed us lent) (cut-eight used (uses-good (plate .rules) (rules-good s h) (rules-ordered s h) (prepared plate name))))
 
   -- Encode takes the first.
   pub encode-is : codeAnswer 1 s name lent ≡ encodeAnswer s name lent

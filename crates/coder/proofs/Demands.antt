@@ -12,8 +12,8 @@ use lib.ListN.{length}
 use Rattle.laws.specs.Lists.{every}
 use Rattle.laws.proofs.Tests.{and-true, by-test, between-true}
 use Rattle.chars.specs.Utf8.{isText, charsOf, badPlace, failPlace}
-use Rattle.plate.specs.Plate.{Plate, edition1, goodRule, ordered}
-use Rattle.plate.specs.Read.{plateAt, acceptedIn, readPlate}
+use Rattle.plate.specs.Plate.{Plate, goodRule, ordered}
+use Rattle.plate.specs.Read.{plateIn, accepted, readPlate}
 use Rattle.branches.specs.Branches.{Use, start, over, codes}
 use Rattle.branches.specs.Choice.{yielded, Filled, firsts, firstOnly}
 use Rattle.branches.proofs.Choice.{firsts-alone}
@@ -93,10 +93,10 @@ filled plate name p read = all-filled (usesIn p name) (uses-good (p .rules) (goo
     all-filled [] h = tt
     all-filled (u ∷ more) h = let b = some-alternative u more h in (b .0, all-filled more (b .1))
 
-    go : (t : Bool) → acceptedIn edition1 plate ≡ t → cond t (some (plateAt (edition1 .width) plate)) none ≡ some p → (every goodRule (p .rules) ≡ true) × (ordered (p .rules) ≡ true)
+    go : (t : Bool) → accepted plate ≡ t → cond t (some (plateIn plate)) none ≡ some p → (every goodRule (p .rules) ≡ true) × (ordered (p .rules) ≡ true)
     go true a e =
-        let q = some-inj (plateAt (edition1 .width) plate) p e in
-        (subst (λ (x : Plate). every goodRule (x .rules) ≡ true) q (rules-good edition1 plate a), subst (λ (x : Plate). ordered (x .rules) ≡ true) q (rules-ordered edition1 plate a))
+        let q = some-inj (plateIn plate) p e in
+        (subst (λ (x : Plate). every goodRule (x .rules) ≡ true) q (rules-good plate a), subst (λ (x : Plate). ordered (x .rules) ≡ true) q (rules-ordered plate a))
     go false a e = absurd (false≢true (ap is-some e))
       where
         is-some : Option Plate → Bool
@@ -104,7 +104,7 @@ filled plate name p read = all-filled (usesIn p name) (uses-good (p .rules) (goo
         is-some none = false
 
     good : (every goodRule (p .rules) ≡ true) × (ordered (p .rules) ≡ true)
-    good = go (acceptedIn edition1 plate) refl read
+    good = go (accepted plate) refl read
 
 -- ---- what is given
 

@@ -13,13 +13,12 @@ use lib.Seq.{slice, slice-empty, slice-cons, take-take}
 use Rattle.laws.specs.Lists.{every, begins}
 use Rattle.laws.proofs.Tests.{and-true}
 use Rattle.laws.proofs.Cuts.{every-take, every-drop}
-use Rattle.plate.specs.Plate.{Rule, goodRule, firstCode, edition1}
-use Rattle.plate.specs.Read.{ruleAt, ruleEnd, ruleCount, rulesPlace, plateAt, acceptedIn}
+use Rattle.plate.specs.Plate.{Rule, goodRule, firstCode}
+use Rattle.plate.specs.Read.{ruleAt, plateIn, accepted}
 use Rattle.plate.specs.Stands.{Here}
-use Rattle.plate.specs.Noted.{isOf, isOther, GroupIs, Placed}
-use Rattle.plate.proofs.Listed.{length-many}
+use Rattle.plate.specs.Noted.{isOf, isOther, GroupIs, AllPlaced}
 use Rattle.plate.proofs.Facts.{rules-good}
-use Rattle.plate.proofs.Noting.{placed-here, placed-rule}
+use Rattle.plate.proofs.Noting.{placed-room, placed-here, placed-rule}
 use Rattle.coder.specs.Walk.{letters, startsWith}
 use Rattle.coder.specs.Search.{Hit, hitFrom}
 use Rattle.coder.specs.Search.Hit.{Taken, None}
@@ -69,17 +68,17 @@ in-group rs first behind g (c ∷ cs) l h =
 
 module _ (s places rest : List ℕ) (first behind : ℕ) where
   abbrev rules : List Rule
-  rules = plateAt (edition1 .width) s .rules
+  rules = plateIn s .rules
 
   -- From rule i on it is as from the first, and the rules left are the group's.
   abbrev pub Left : ℕ → Type 0
   Left i =
       (first ≤ i) × (i ≤ behind) × (every (isOf (getD rest 0 0)) (slice i behind rules) ≡ true) × (hitAt (ltb first i) (slice i behind rules) rest ≡ hitAt false rules rest)
 
-  module _ (a : acceptedIn edition1 s ≡ true) (p : Placed s (rulesPlace (edition1 .width) s) (ruleCount (edition1 .width) s) places)
+  module _ (a : accepted s ≡ true) (p : AllPlaced s places)
       (g : GroupIs rules (getD rest 0 0) first behind) (l : 0 < length rest) where
     pub left-start : Left first
-    left-start = (omega arith, g .rising, g .inside, in-group rules first behind (rules-good edition1 s a) rest l g)
+    left-start = (omega arith, g .rising, g .inside, in-group rules first behind (rules-good s a) rest l g)
 
     pub left-end : (i : ℕ) → behind ≤ i → Left i → hitAt false rules rest ≡ None (ltb first behind)
     left-end i h k =
@@ -91,19 +90,19 @@ module _ (s places rest : List ℕ) (first behind : ℕ) where
       abbrev here : ℕ
       here = getD places i 0
 
-      counted : i < ruleCount (edition1 .width) s
-      counted = let w = g .within in let n = length-many (ruleAt s) (ruleEnd s) (ruleCount (edition1 .width) s) (rulesPlace (edition1 .width) s) in omega arith
+      counted : i < length rules
+      counted = let w = g .within in omega arith
 
       pub has-place : i < length places
-      has-place = let c = counted in let r = p .room in omega arith
+      has-place = placed-room s places a p i counted
 
       pub stands : Here s here
-      stands = placed-here s places (ruleCount (edition1 .width) s) a p refl i counted
+      stands = placed-here s places a p i counted
 
       next : slice i behind rules ≡ ruleAt s here ∷ slice (i + 1) behind rules
       next =
           slice-cons i behind rules (ruleAt s 0) h (g .within)
-          ∙ ap₂ (λ (r : Rule) (m : ℕ). r ∷ slice m behind rules) (placed-rule s places (ruleCount (edition1 .width) s) a p refl i counted (ruleAt s 0)) (sym (add-one i))
+          ∙ ap₂ (λ (r : Rule) (m : ℕ). r ∷ slice m behind rules) (placed-rule s places a p i counted (ruleAt s 0)) (sym (add-one i))
 
       pub left-hit : Left i → begins (letters (ruleAt s here)) rest ≡ true → hitAt false rules rest ≡ Taken (ruleAt s here)
       left-hit k b = sym (k .3) ∙ hit (slice i behind rules) (ltb first i) (ruleAt s here) (slice (i + 1) behind rules) next rest l b

@@ -4,8 +4,7 @@ use mathlib.Core.Path.{_≡_, refl, sym, ap, _∙_}
 use mathlib.Core.Bool.{cond}
 use mathlib.Core.List.{List}
 use lib.Dec.{eqb}
-use Rattle.plate.specs.Plate.{edition1}
-use Rattle.plate.specs.Read.{plateAt}
+use Rattle.plate.specs.Read.{plateIn}
 use Rattle.coder.specs.Answer as wanted
 use Rattle.coder.specs.Outcome.{told, listedTo}
 use Rattle.coder.specs.declared.Coded.{Coded}
@@ -50,6 +49,6 @@ module _ (plate name lent : List ℕ) (r r′ : Coded) (out out′ : List ℕ) w
   pub encode : told r out ≡ wanted.encodeAnswer plate name lent → told r′ out′ ≡ wanted.encodeAnswer plate name lent → (r ≡ r′) × (out ≡ out′)
   encode e f = one (wanted.encodeAnswer plate name lent) r r′ out out′ e f
 
-  pub code-accepted : (most : ℕ) → told r out ≡ wanted.codedBy (listedTo most) (plateAt (edition1 .width) plate) name lent
-      → told r′ out′ ≡ wanted.codedBy (listedTo most) (plateAt (edition1 .width) plate) name lent → (r ≡ r′) × (out ≡ out′)
-  code-accepted most e f = one (wanted.codedBy (listedTo most) (plateAt (edition1 .width) plate) name lent) r r′ out out′ e f
+  pub code-accepted : (most : ℕ) → told r out ≡ wanted.codedBy (listedTo most) (plateIn plate) name lent
+      → told r′ out′ ≡ wanted.codedBy (listedTo most) (plateIn plate) name lent → (r ≡ r′) × (out ≡ out′)
+  code-accepted most e f = one (wanted.codedBy (listedTo most) (plateIn plate) name lent) r r′ out out′ e f

@@ -2,8 +2,7 @@
 ghost use mathlib.Core.Path.{_≡_};
 ghost use mathlib.Core.Bool.{true};
 ghost use Prim.Native.Nat.{_+_, _*_, _/_, _≤_, _<_};
-ghost use Rattle.plate.specs.Plate.{edition1};
-ghost use Rattle.plate.specs.Read.{plateAt, acceptedIn};
+ghost use Rattle.plate.specs.Read.{plateIn, accepted};
 ghost use Rattle.plate.specs.Noted.{Noted};
 ghost use Rattle.coder.specs.Walk.{uses};
 ghost use Rattle.coder.specs.Answer.{smaller, codedBy, listAnswer, encodeAnswer};
@@ -14,6 +13,8 @@ use super::name::prepare;
 use super::run::run;
 use super::write::write;
 use chars::lower::lowers;
+use plate::MOST_RULES;
+use plate::NOTED;
 use plate::accept::accept_noting;
 
 // "Room is the smaller of 64 and (buffer length + 1) divided by 7, rounded down."
@@ -34,8 +35,8 @@ fn code_chars(
     out: &mut [u8],
     most: usize,
 ) -> Coded
-    requires { ⌜ (acceptedIn edition1 (now plate) ≡ true) × Noted (edition1 .width) (now plate) (now places) (now groups) ⌝ }
-    ensures { λ r. ⌜ told r (now (out .exit)) ≡ listedTo most (uses (plateAt (edition1 .width) (now (plate .entry)) .rules) (now (chars .entry))) (now (out .entry)) ⌝ }
+    requires { ⌜ (accepted (now plate) ≡ true) × Noted (now plate) (now places) (now groups) ⌝ }
+    ensures { λ r. ⌜ told r (now (out .exit)) ≡ listedTo most (uses (plateIn (now (plate .entry)) .rules) (now (chars .entry))) (now (out .entry)) ⌝ }
 {
     let ran = run(plate, places, groups, chars, most, room_of(out.len()));
     if ran.over {
@@ -55,8 +56,8 @@ pub fn code_accepted(
     out: &mut [u8],
     most: usize,
 ) -> Coded
-    requires { ⌜ (acceptedIn edition1 (now plate) ≡ true) × Noted (edition1 .width) (now plate) (now places) (now groups) ⌝ }
-    ensures { λ r. ⌜ told r (now (out .exit)) ≡ codedBy (listedTo most) (plateAt (edition1 .width) (now (plate .entry))) (now (name .entry)) (now (out .entry)) ⌝ }
+    requires { ⌜ (accepted (now plate) ≡ true) × Noted (now plate) (now places) (now groups) ⌝ }
+    ensures { λ r. ⌜ told r (now (out .exit)) ≡ codedBy (listedTo most) (plateIn (now (plate .entry))) (now (name .entry)) (now (out .entry)) ⌝ }
 {
     let t = lowers();
     let p = prepare(plate, name, &t);
@@ -77,8 +78,8 @@ pub fn code_accepted(
 fn code_name(plate: &[u8], name: &[u8], out: &mut [u8], most: usize) -> Coded
     ensures { λ r. ⌜ told r (now (out .exit)) ≡ codeAnswer most (now (plate .entry)) (now (name .entry)) (now (out .entry)) ⌝ }
 {
-    let mut places = [0u32; 512];
-    let mut groups = [0u32; 384];
+    let mut places = [0u32; MOST_RULES];
+    let mut groups = [0u32; NOTED];
     if !accept_noting(plate, &mut places, &mut groups) {
         return Coded::NotAPlate;
     }

@@ -4,8 +4,7 @@ ghost use mathlib.Core.Bool.{true};
 ghost use lib.ListN.{length, drop, replicate};
 ghost use Prim.Native.Nat.{_≤_};
 ghost use Rattle.chars.specs.Table.{table};
-ghost use Rattle.plate.specs.Plate.{edition1};
-ghost use Rattle.plate.specs.Read.{plateAt, acceptedIn};
+ghost use Rattle.plate.specs.Read.{plateIn, accepted};
 ghost use Rattle.coder.specs.Name.{coded};
 ghost use Rattle.coder.specs.Held.{foreignFault, PreparedIs};
 ghost use Rattle.coder.specs.declared.NameFault.the-variants.{None};
@@ -21,8 +20,8 @@ use plate::read;
 
 // "Lowercase each other character [..]. With the flag on, fold once, never again."
 fn coded_char(plate: &[u8], t: &[u16; 384], c: u32) -> u32
-    requires { ⌜ (acceptedIn edition1 (now plate) ≡ true) × (now t ≡ table) ⌝ }
-    ensures { λ r. ⌜ r ≡ coded (plateAt (edition1 .width) (now (plate .entry))) c ⌝ }
+    requires { ⌜ (accepted (now plate) ≡ true) × (now t ≡ table) ⌝ }
+    ensures { λ r. ⌜ r ≡ coded (plateIn (now (plate .entry))) c ⌝ }
 {
     let low = lower(t, c);
     if read::flag(plate) {
@@ -67,8 +66,8 @@ fn foreign_fault(name: &[u8], at: usize) -> NameFault
 
 // The characters of a name, in one pass.
 pub(crate) fn prepare(plate: &[u8], name: &[u8], t: &[u16; 384]) -> Prepared
-    requires { ⌜ (acceptedIn edition1 (now plate) ≡ true) × (now t ≡ table) ⌝ }
-    ensures { λ r. ⌜ PreparedIs (plateAt (edition1 .width) (now (plate .entry))) (now (name .entry)) r ⌝ }
+    requires { ⌜ (accepted (now plate) ≡ true) × (now t ≡ table) ⌝ }
+    ensures { λ r. ⌜ PreparedIs (plateIn (now (plate .entry))) (now (name .entry)) r ⌝ }
 {
     if 256 < name.len() {
         return no_chars(NameFault::TooLong);

@@ -2,8 +2,7 @@
 ghost use mathlib.Core.Path.{_≡_};
 ghost use mathlib.Core.Bool.{true};
 ghost use Prim.Native.Nat.{_≤_};
-ghost use Rattle.plate.specs.Plate.{edition1};
-ghost use Rattle.plate.specs.Read.{plateAt, acceptedIn};
+ghost use Rattle.plate.specs.Read.{plateIn, accepted};
 ghost use Rattle.plate.specs.Noted.{Noted};
 ghost use Rattle.coder.specs.Walk.{uses};
 ghost use Rattle.coder.specs.Held.{cutAll, RunIs};
@@ -27,8 +26,8 @@ pub(crate) fn run(
     most: usize,
     room: usize,
 ) -> Stepped
-    requires { ⌜ (acceptedIn edition1 (now plate) ≡ true) × Noted (edition1 .width) (now plate) (now places) (now groups) × (room ≤ 64) ⌝ }
-    ensures { λ r. ⌜ RunIs room (cutAll most (uses (plateAt (edition1 .width) (now (plate .entry)) .rules) (now (name .entry)))) r ⌝ }
+    requires { ⌜ (accepted (now plate) ≡ true) × Noted (now plate) (now places) (now groups) × (room ≤ 64) ⌝ }
+    ensures { λ r. ⌜ RunIs room (cutAll most (uses (plateIn (now (plate .entry)) .rules) (now (name .entry)))) r ⌝ }
 {
     let mut bs = branches::start();
     if room == 0 {

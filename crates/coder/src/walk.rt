@@ -4,8 +4,7 @@ ghost use mathlib.Core.Bool.{true, false};
 ghost use mathlib.Core.List.{[]};
 ghost use Prim.Native.Nat.{_<_, _≤_};
 ghost use lib.ListN.{length, drop};
-ghost use Rattle.plate.specs.Plate.{edition1};
-ghost use Rattle.plate.specs.Read.{plateAt, acceptedIn};
+ghost use Rattle.plate.specs.Read.{plateIn, accepted};
 ghost use Rattle.plate.specs.Noted.{Noted};
 ghost use Rattle.plate.specs.Stands.{heldField};
 ghost use Rattle.coder.specs.Walk.{vowelFollows, forced};
@@ -22,8 +21,8 @@ use plate::read;
 // "Otherwise take the longest pattern that begins here; of equal patterns the first. The search stops at that rule." Only the rules of the character's
 // group are looked at. Within a first character patterns stand longest first, so the first that fits is taken.
 fn search(plate: &[u8], places: &[u32], groups: &[u32], rest: &[u32]) -> Found
-    requires { ⌜ (acceptedIn edition1 (now plate) ≡ true) × Noted (edition1 .width) (now plate) (now places) (now groups) × (0 < length (now rest)) ⌝ }
-    ensures { λ r. ⌜ FoundIs (now (plate .entry)) (hitAt false (plateAt (edition1 .width) (now (plate .entry)) .rules) (now (rest .entry))) r ⌝ }
+    requires { ⌜ (accepted (now plate) ≡ true) × Noted (now plate) (now places) (now groups) × (0 < length (now rest)) ⌝ }
+    ensures { λ r. ⌜ FoundIs (now (plate .entry)) (hitAt false (plateIn (now (plate .entry)) .rules) (now (rest .entry))) r ⌝ }
 {
     let group = group_of(plate, places, groups, rest[0]);
     let mut i = group.first;
@@ -121,8 +120,8 @@ pub(crate) fn next_use(
     last: u32,
     from: usize,
 ) -> NextUse
-    requires { ⌜ (acceptedIn edition1 (now plate) ≡ true) × Noted (edition1 .width) (now plate) (now places) (now groups) ⌝ }
-    ensures { λ r. ⌜ NextIs (plateAt (edition1 .width) (now (plate .entry)) .rules) (now (name .entry)) most begun last from r ⌝ }
+    requires { ⌜ (accepted (now plate) ≡ true) × Noted (now plate) (now places) (now groups) ⌝ }
+    ensures { λ r. ⌜ NextIs (plateIn (now (plate .entry)) .rules) (now (name .entry)) most begun last from r ⌝ }
 {
     let mut started = begun;
     let mut before = last;

@@ -55,7 +55,7 @@ pub fn text_words(out: &mut [u8], pen: Pen, number: u64) -> Pen {
         5 => put(out, pen, b"a pattern over 16 bytes"),
         6 => put(out, pen, b"a field with over 8 alternatives"),
         7 => put(out, pen, b"an alternative that is not 0 to 6 digits"),
-        8 => put(out, pen, b"over 512 rules, or over 128 folded characters"),
+        8 => put(out, pen, b"over 1,500 rules, or over 128 folded characters"),
         9 => put(out, pen, b"the buffer is shorter than the plate"),
         _ => put(out, pen, b"refused"),
     }

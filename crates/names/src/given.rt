@@ -18,6 +18,9 @@ use front::words::name_words;
 use front::words::put_refusal;
 use zengilvar::dm_encode;
 
+// The programs take plates up to so many bytes; the library takes any.
+const PLATE_MOST: usize = 65536;
+
 // How many bytes the plate has, and the status where there is none.
 pub struct Plate {
     pub count: usize,
@@ -50,12 +53,25 @@ fn refused(who: u8, path: &[u8]) -> Plate {
     none(REFUSED)
 }
 
+fn too_long(who: u8, path: &[u8]) -> Plate {
+    let mut room = note_room();
+    let pen = put_who(&mut room, note(who));
+    let pen = put_text(&mut room, pen, path);
+    let pen = put(&mut room, pen, b": the plate has over 65,536 bytes; ");
+    let pen = put(&mut room, pen, b"such a plate is for the library alone\n");
+    flush(&room, pen);
+    none(REFUSED)
+}
+
 fn from_path(who: u8, path: &[u8], into: &mut [u8]) -> Plate {
     let got = read_path(who, path, into);
     if !got.is_read {
         return none(FAULT);
     }
     let n = got.count;
+    if PLATE_MOST < n {
+        return too_long(who, path);
+    }
     if !is_plate(part(into, 0, n)) {
         return refused(who, path);
     }

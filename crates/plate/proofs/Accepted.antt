@@ -10,7 +10,7 @@ use lib.Dec.{ltb, leb, eqb}
 use lib.ListN.{length}
 use borrow.Author.Tests.{ltb-true, lt-ltb, le-ltb, le-leb, lt-leb, eq-eqb, ne-eqb}
 use Rattle.laws.specs.Lists.{every, between}
-use Rattle.laws.proofs.Tests.{or-false, and-true, and-left-false, and-right-false, is-between, above-between, between-true}
+use Rattle.laws.proofs.Tests.{or-false, and-true, and-left-false, and-right-false, is-between, below-between, above-between, between-true}
 use Rattle.laws.proofs.Bits.{by-order}
 use Rattle.laws.proofs.Many.{and-holds, and-right-holds, and-swap, and-cross, every-append}
 use Rattle.chars.specs.Utf8.{charOf, codeOf, scalar}
@@ -31,7 +31,7 @@ use Rattle.plate.specs.declared.Seen.{Seen}
 use Rattle.plate.specs.declared.Seen.the-variants.{Good, Wrong}
 use Rattle.plate.proofs.Place.{number-lt}
 use Rattle.plate.proofs.Windows.{number-append}
-use Rattle.plate.proofs.Listed.{many-cons, many-snoc, past-cons, past-add, every-turn, every-stop, count-in, count-over, between-in, between-none, between-over}
+use Rattle.plate.proofs.Listed.{length-many, many-cons, many-snoc, past-cons, past-add, every-turn, every-stop, count-in, count-over, between-in, between-none, between-over}
 use Rattle.plate.proofs.Fronts.{bytes-length, first-nonzero}
 
 -- ---- answers taken apart
@@ -518,9 +518,9 @@ module _ (a b c d f g z : Bool) where
   seven-all : a ≡ true → b ≡ true → c ≡ true → d ≡ true → f ≡ true → g ≡ true → seven ≡ z
   seven-all h i j k l m = rw (h, i, j, k, l, m)
 
-module _ (s : List ℕ) (number w most : ℕ) where
+module _ (s : List ℕ) (number w least most : ℕ) where
   abbrev e : Edition
-  e = edition number w most
+  e = edition number w least most
 
   abbrev rs : List Rule
   rs = plateAt w s .rules
@@ -535,7 +535,7 @@ module _ (s : List ℕ) (number w most : ℕ) where
   t2 = eqb (reserved w s) 0
 
   abbrev t3 : Bool
-  t3 = leb (length rs) most
+  t3 = between least most (length rs)
 
   abbrev t4 : Bool
   t4 = every goodRule rs && ordered rs
@@ -555,9 +555,15 @@ module _ (s : List ℕ) (number w most : ℕ) where
   pub accept-reserved : (v : ℕ) → v ≡ reserved w s → (v ≡ 0 → ⊥) → false ≡ acceptedIn e s
   accept-reserved v i h = sym (seven-2 t1 t2 t3 t4 t5 t6 t7 (ne-eqb _ _ (λ g. h (i ∙ g))))
 
-  pub accept-many-rules : (n : ℕ) → n ≡ ruleCount w s → most < n → false ≡ acceptedIn e s
-  accept-many-rules n i h =
-      sym (seven-3 t1 t2 t3 t4 t5 t6 t7 (count-over (ruleAt s) (ruleEnd s) (ruleCount w s) (rulesPlace w s) most (subst (λ (k : ℕ). most < k) i h)))
+  module _ (n : ℕ) (i : n ≡ ruleCount w s) where
+    rules-counted : length rs ≡ n
+    rules-counted = length-many (ruleAt s) (ruleEnd s) (ruleCount w s) (rulesPlace w s) ∙ sym i
+
+    pub accept-few-rules : n < least → false ≡ acceptedIn e s
+    accept-few-rules h = sym (seven-3 t1 t2 t3 t4 t5 t6 t7 (ap (between least most) rules-counted ∙ below-between least most n h))
+
+    pub accept-many-rules : most < n → false ≡ acceptedIn e s
+    accept-many-rules h = sym (seven-3 t1 t2 t3 t4 t5 t6 t7 (ap (between least most) rules-counted ∙ above-between least most n h))
 
   pub accept-many-foldings : (m : ℕ) → m ≡ foldingCount w s → mostFoldings < m → false ≡ acceptedIn e s
   accept-many-foldings m i h =
@@ -577,13 +583,13 @@ module _ (s : List ℕ) (number w most : ℕ) where
       pub accept-bad-rule : r ≡ Nowhere → false ≡ acceptedIn e s
       accept-bad-rule f = sym (seven-4 t1 t2 t3 t4 t5 t6 t7 (nowhere t4 (plateEnd w s) rules-are f))
 
-      pub accept-end : (x y : ℕ) → x ≡ numberAt s 0 8 → x ≡ number → y ≡ reserved w s → y ≡ 0 → n ≤ most → m ≤ mostFoldings → v ≡ true
+      pub accept-end : (x y : ℕ) → x ≡ numberAt s 0 8 → x ≡ number → y ≡ reserved w s → y ≡ 0 → least ≤ n → n ≤ most → m ≤ mostFoldings → v ≡ true
           → (end : ℕ) → r ≡ To end → (z : Bool) → z ≡ closed s end → z ≡ acceptedIn e s
-      accept-end x y a a′ b b′ c′ d′ f end g z l =
+      accept-end x y a a′ b b′ c c′ d′ f end g z l =
           let t = to t4 (plateEnd w s) end rules-are g in
           l ∙ ap (closed s) (sym (t .1))
           ∙ sym (seven-all t1 t2 t3 t4 t5 t6 t7 (eq-eqb _ _ (sym a ∙ a′)) (eq-eqb _ _ (sym b ∙ b′))
-          (count-in (ruleAt s) (ruleEnd s) (ruleCount w s) (rulesPlace w s) most (subst (λ (q : ℕ). q ≤ most) j c′))
+          (ap (between least most) (rules-counted n j) ∙ is-between least most n c c′)
           (t .0)
           (count-in (foldingAt s) foldingEnd (foldingCount w s) foldingsPlace mostFoldings (subst (λ (q : ℕ). q ≤ mostFoldings) i d′))
           (sym foldings-are ∙ f))

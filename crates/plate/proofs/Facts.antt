@@ -1,22 +1,22 @@
 -- What is known of an accepted plate: each of its rules is good and stands where the one before ends, and the keys of its foldings rise. `acceptedIn`
 -- says so of the plate's lists; a rule's place stays small because there are few rules, and a good rule has few bits. Assumes nothing.
-use Prim.Native.Nat.{ℕ, zero, suc, _+_, _-_, _*_, _≤_}
-use mathlib.Core.Path.{_≡_, sym, subst}
-use mathlib.Core.Bool.{true, _&&_}
+use Prim.Native.Nat.{ℕ, zero, suc, _+_, _-_, _*_, _<_, _≤_}
+use mathlib.Core.Path.{_≡_, sym, _∙_, ap, subst}
+use mathlib.Core.Bool.{Bool, true, cond, _&&_}
 use mathlib.Core.List.{List}
 use native.Mathlib.Omega.{arith}
-use borrow.Author.Tests.{leb-true}
+use borrow.Author.Tests.{leb-true, eq-eqb, ne-eqb, le-leb, lt-leb}
 use lib.Dec.{leb, eqb}
 use lib.ListN.{length}
 use Rattle.laws.specs.Lists.{every, between}
-use Rattle.laws.proofs.Tests.{and-true, between-true}
+use Rattle.laws.proofs.Tests.{and-true, between-true, by-test}
 use Rattle.chars.specs.Digits.{digit, isAlternative}
 use Rattle.plate.specs.Bits.{numberAt}
-use Rattle.plate.specs.Plate.{Edition, edition1, mostBytes, mostAlternatives, mostDigits, mostFoldings, goodPattern, goodField, goodRule, goodFolding, rising, ordered}
-use Rattle.plate.specs.Plate.{goodFoldings, goodRules, goodPlate}
-use Rattle.plate.specs.Most.{alternativeMost, fieldMost, ruleMost, plateMost}
+use Rattle.plate.specs.Plate.{Edition, edition1, edition2, editionFor, mostBytes, mostAlternatives, mostDigits, mostFoldings, goodPattern, goodField, goodRule, goodFolding, rising, ordered}
+use Rattle.plate.specs.Plate.{goodFoldings, goodRules, goodIn}
+use Rattle.plate.specs.Most.{mostRules, alternativeMost, fieldMost, ruleMost, plateMost}
 use Rattle.plate.specs.Read.{many, alternativeAt, alternativeEnd, fieldAt, fieldEnd, startPlace, vowelPlace, otherPlace, ruleAt, ruleEnd, foldingAt, foldingEnd}
-use Rattle.plate.specs.Read.{ruleCount, foldingCount, reserved, foldingsPlace, rulesPlace, plateAt, plateEnd, closed, acceptedIn}
+use Rattle.plate.specs.Read.{ruleCount, foldingCount, reserved, foldingsPlace, rulesPlace, plateAt, plateEnd, closed, acceptedIn, editionOf, countWidth, accepted, plateIn}
 use Rattle.plate.specs.Answers.{goodText}
 use Rattle.plate.specs.Stands.{Stands}
 use Rattle.plate.proofs.Listed.{length-many, past-most}
@@ -25,46 +25,72 @@ use Rattle.plate.proofs.Listed.{length-many, past-most}
 
 module _ (e : Edition) (s : List ℕ) (h : acceptedIn e s ≡ true) where
   -- What an accepted plate says is good.
-  pub says-good : goodPlate e (plateAt (e .width) s) ≡ true
+  pub says-good : goodIn e (plateAt (e .width) s) ≡ true
   says-good =
       let p = plateAt (e .width) s in
       let z = closed s (plateEnd (e .width) s) in
-      let b = and-true (eqb (numberAt s 0 8) (e .number)) (eqb (reserved (e .width) s) 0 && (goodPlate e p && z)) h in
-      let c = and-true (eqb (reserved (e .width) s) 0) (goodPlate e p && z) (b .1) in
-      and-true (goodPlate e p) z (c .1) .0
+      let b = and-true (eqb (numberAt s 0 8) (e .number)) (eqb (reserved (e .width) s) 0 && (goodIn e p && z)) h in
+      let c = and-true (eqb (reserved (e .width) s) 0) (goodIn e p && z) (b .1) in
+      and-true (goodIn e p) z (c .1) .0
 
-  rules-table : (leb (length (plateAt (e .width) s .rules)) (e .most) ≡ true) × (every goodRule (plateAt (e .width) s .rules) && ordered (plateAt (e .width) s .rules) ≡ true)
+  rules-table : (between (e .least) (e .most) (length (plateAt (e .width) s .rules)) ≡ true)
+      × (every goodRule (plateAt (e .width) s .rules) && ordered (plateAt (e .width) s .rules) ≡ true)
   rules-table =
       let p = plateAt (e .width) s in
-      let b = and-true (goodRules (e .most) (p .rules)) (goodFoldings (p .foldings)) says-good in
-      and-true (leb (length (p .rules)) (e .most)) (every goodRule (p .rules) && ordered (p .rules)) (b .0)
+      let b = and-true (goodRules e (p .rules)) (goodFoldings (p .foldings)) says-good in
+      and-true (between (e .least) (e .most) (length (p .rules))) (every goodRule (p .rules) && ordered (p .rules)) (b .0)
 
   foldings-table : (leb (length (plateAt (e .width) s .foldings)) mostFoldings ≡ true)
       × (every goodFolding (plateAt (e .width) s .foldings) && rising (plateAt (e .width) s .foldings) ≡ true)
   foldings-table =
       let p = plateAt (e .width) s in
-      let b = and-true (goodRules (e .most) (p .rules)) (goodFoldings (p .foldings)) says-good in
+      let b = and-true (goodRules e (p .rules)) (goodFoldings (p .foldings)) says-good in
       and-true (leb (length (p .foldings)) mostFoldings) (every goodFolding (p .foldings) && rising (p .foldings)) (b .1)
 
-  -- No more rules than the edition has, and no more foldings than any.
-  pub rules-few : ruleCount (e .width) s ≤ e .most
+-- The first byte tells the edition.
+module _ (s : List ℕ) (v : ℕ) (e : v ≡ numberAt s 0 8) where
+  pub tells-2 : v ≡ edition2 .number → editionOf s ≡ edition2
+  tells-2 h = ap (λ (t : Bool). cond t edition2 edition1) (eq-eqb (numberAt s 0 8) 2 (sym e ∙ h))
+
+  pub tells-1 : (v ≡ edition2 .number → ⊥) → editionOf s ≡ edition1
+  tells-1 h = ap (λ (t : Bool). cond t edition2 edition1) (ne-eqb (numberAt s 0 8) 2 (λ f. h (e ∙ f)))
+
+-- So does the number of rules, for the plate to be written.
+pub asks-1 : (n : ℕ) → n ≤ edition1 .most → editionFor n ≡ edition1
+asks-1 n h = ap (λ (t : Bool). cond t edition1 edition2) (le-leb n 512 h)
+
+pub asks-2 : (n : ℕ) → edition1 .most < n → editionFor n ≡ edition2
+asks-2 n h = ap (λ (t : Bool). cond t edition1 edition2) (lt-leb n 512 h)
+
+-- The most rules of an edition are no more than those of any.
+most-few : (s : List ℕ) → editionOf s .most ≤ mostRules
+most-few s = by-test (λ e. e .most ≤ mostRules) (eqb (numberAt s 0 8) (edition2 .number)) edition2 edition1 (λ _. omega arith) (λ _. omega arith)
+
+module _ (s : List ℕ) (h : accepted s ≡ true) where
+  abbrev w : ℕ
+  w = countWidth s
+
+  pub rules-counted : length (plateIn s .rules) ≡ ruleCount w s
+  rules-counted = length-many (ruleAt s) (ruleEnd s) (ruleCount w s) (rulesPlace w s)
+
+  pub rules-few : ruleCount w s ≤ mostRules
   rules-few =
-      let n = leb-true (length (plateAt (e .width) s .rules)) (e .most) (rules-table .0) in
-      subst (λ (k : ℕ). k ≤ e .most) (length-many (ruleAt s) (ruleEnd s) (ruleCount (e .width) s) (rulesPlace (e .width) s)) n
+      let n = between-true (editionOf s .least) (editionOf s .most) (length (plateIn s .rules)) (rules-table (editionOf s) s h .0) in
+      omega (arith, n .1, most-few s, rules-counted)
 
-  pub foldings-few : foldingCount (e .width) s ≤ mostFoldings
+  pub foldings-few : foldingCount w s ≤ mostFoldings
   foldings-few =
-      let n = leb-true (length (plateAt (e .width) s .foldings)) mostFoldings (foldings-table .0) in
-      subst (λ (k : ℕ). k ≤ mostFoldings) (length-many (foldingAt s) foldingEnd (foldingCount (e .width) s) foldingsPlace) n
+      let n = leb-true (length (plateIn s .foldings)) mostFoldings (foldings-table (editionOf s) s h .0) in
+      subst (λ (k : ℕ). k ≤ mostFoldings) (length-many (foldingAt s) foldingEnd (foldingCount w s) foldingsPlace) n
 
-  pub rules-good : every goodRule (plateAt (e .width) s .rules) ≡ true
-  rules-good = let rs = plateAt (e .width) s .rules in and-true (every goodRule rs) (ordered rs) (rules-table .1) .0
+  pub rules-good : every goodRule (plateIn s .rules) ≡ true
+  rules-good = let rs = plateIn s .rules in and-true (every goodRule rs) (ordered rs) (rules-table (editionOf s) s h .1) .0
 
-  pub rules-ordered : ordered (plateAt (e .width) s .rules) ≡ true
-  rules-ordered = let rs = plateAt (e .width) s .rules in and-true (every goodRule rs) (ordered rs) (rules-table .1) .1
+  pub rules-ordered : ordered (plateIn s .rules) ≡ true
+  rules-ordered = let rs = plateIn s .rules in and-true (every goodRule rs) (ordered rs) (rules-table (editionOf s) s h .1) .1
 
-  pub keys-rise : rising (plateAt (e .width) s .foldings) ≡ true
-  keys-rise = let fs = plateAt (e .width) s .foldings in and-true (every goodFolding fs) (rising fs) (foldings-table .1) .1
+  pub keys-rise : rising (plateIn s .foldings) ≡ true
+  keys-rise = let fs = plateIn s .foldings in and-true (every goodFolding fs) (rising fs) (foldings-table (editionOf s) s h .1) .1
 
 -- ---- where rules stand
 
@@ -112,7 +138,7 @@ module _ (s : List ℕ) where
       (record { near = omega arith; good = b .0 }, good-stand n (ruleEnd s at) (omega (arith, m .start, m .vowel, m .other, m .end)) (b .1))
 
 -- The rules of an accepted plate stand from the first place on.
-pub all-stand : (s : List ℕ) → acceptedIn edition1 s ≡ true → (n : ℕ) → n ≡ ruleCount (edition1 .width) s → Stands s n (rulesPlace (edition1 .width) s)
+pub all-stand : (s : List ℕ) → accepted s ≡ true → (n : ℕ) → n ≡ ruleCount (countWidth s) s → Stands s n (rulesPlace (countWidth s) s)
 all-stand s h n e =
-    subst (λ (m : ℕ). Stands s m (rulesPlace (edition1 .width) s)) (sym e)
-    (good-stand s (ruleCount (edition1 .width) s) (rulesPlace (edition1 .width) s) (omega (arith, rules-few edition1 s h, foldings-few edition1 s h)) (rules-good edition1 s h))
+    subst (λ (m : ℕ). Stands s m (rulesPlace (countWidth s) s)) (sym e)
+    (good-stand s (ruleCount (countWidth s) s) (rulesPlace (countWidth s) s) (omega (arith, rules-few s h, foldings-few s h)) (rules-good s h))

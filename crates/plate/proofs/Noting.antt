@@ -16,15 +16,15 @@ use Rattle.laws.proofs.Tests.{and-true, both-true, or-true}
 use Rattle.laws.proofs.Bits.{by-order}
 use Rattle.laws.proofs.Many.{every-append}
 use Rattle.plate.specs.Most.{mostRules}
-use Rattle.plate.specs.Plate.{Rule, firstCode, goodRule, edition1}
+use Rattle.plate.specs.Plate.{Rule, Edition, firstCode, goodRule}
 use Rattle.plate.specs.Stands.{Here, Stands}
-use Rattle.plate.specs.Read.{foldingsPlace, many, past, ruleAt, ruleEnd, ruleCount, foldingCount, rulesPlace, plateAt, acceptedIn}
+use Rattle.plate.specs.Read.{foldingsPlace, many, past, ruleAt, ruleEnd, ruleCount, foldingCount, rulesPlace, acceptedIn, editionOf, countWidth, accepted, plateIn}
 use Rattle.plate.specs.Answers.{inOrder, ruleFits, ruleSeen}
-use Rattle.plate.specs.Noted.{half, notedCharacters, isOf, isOther, GroupIs, Placed, NotedFrom, Noted, NotedIf, Begun}
+use Rattle.plate.specs.Noted.{half, notedCharacters, isOf, isOther, GroupIs, Placed, NotedFrom, NotedIn, NotedIf, AllPlaced, Begun}
 use Rattle.plate.specs.declared.Seen.{Seen}
 use Rattle.plate.specs.declared.Seen.the-variants.{Good}
 use Rattle.plate.proofs.Listed.{length-many, getD-many, many-snoc, past-snoc}
-use Rattle.plate.proofs.Facts.{all-stand}
+use Rattle.plate.proofs.Facts.{rules-counted, all-stand}
 use Rattle.plate.proofs.Accepted.{Taken, good}
 
 -- ---- one rule more
@@ -242,13 +242,18 @@ pub begun-length : (code begun c i b : ℕ) (groups noted : List ℕ) → Begun 
 begun-length code begun c i b groups noted = ⊎-elim (λ w. ap length (w .2)) (λ w. ap length (w .2) ∙ length-set groups code (begun * half + i))
 
 -- Of all rules that the head counts, it is of the plate.
-pub noted-all : (w : ℕ) (s places groups : List ℕ) (m n : ℕ) → m ≡ foldingCount w s → n ≡ ruleCount w s → NotedFrom s (foldingsPlace + 42 * m) n places groups → Noted w s places groups
+pub noted-all : (w : ℕ) (s places groups : List ℕ) (m n : ℕ) → m ≡ foldingCount w s → n ≡ ruleCount w s → NotedFrom s (foldingsPlace + 42 * m) n places groups → NotedIn w s places groups
 noted-all w s places groups m n e f h =
     subst (λ (k : ℕ). NotedFrom s (foldingsPlace + 42 * k) (ruleCount w s) places groups) e (subst (λ (k : ℕ). NotedFrom s (foldingsPlace + 42 * m) k places groups) f h)
 
-pub noted-if : (t : Bool) (w : ℕ) (s places groups : List ℕ) → Noted w s places groups → NotedIf t w s places groups
+pub noted-if : (t : Bool) (w : ℕ) (s places groups : List ℕ) → NotedIn w s places groups → NotedIf t w s places groups
 noted-if true w s places groups n = n
 noted-if false w s places groups n = tt
+
+-- What is told of an edition is told of the bytes, where they tell that edition.
+pub told-in : (s places groups : List ℕ) (e : Edition) → editionOf s ≡ e → (r : Bool) → (r ≡ acceptedIn e s) × NotedIf r (e .width) s places groups
+    → (r ≡ accepted s) × NotedIf r (countWidth s) s places groups
+told-in s places groups e h r t = subst (λ (x : Edition). (r ≡ acceptedIn x s) × NotedIf r (x .width) s places groups) (sym h) t
 
 -- ---- a rule by its number
 
@@ -258,11 +263,18 @@ stands-at s zero at i h l = absurd (omega arith)
 stands-at s (suc n) at zero h l = h .0
 stands-at s (suc n) at (suc i) h l = stands-at s n (ruleEnd s at) i (h .1) (omega arith)
 
-module _ (s places : List ℕ) (n : ℕ) (a : acceptedIn edition1 s ≡ true) (p : Placed s (rulesPlace (edition1 .width) s) n places) (e : n ≡ ruleCount (edition1 .width) s)
-    (i : ℕ) (l : i < n) where
-  pub placed-here : Here s (getD places i 0)
-  placed-here = subst (Here s) (sym (p .at i l)) (stands-at s n (rulesPlace (edition1 .width) s) i (all-stand s a n e) l)
+module _ (s places : List ℕ) (a : accepted s ≡ true) (p : AllPlaced s places) (i : ℕ) (l : i < length (plateIn s .rules)) where
+  counted : i < ruleCount (countWidth s) s
+  counted = subst (λ (m : ℕ). i < m) (rules-counted s a) l
 
-  pub placed-rule : (d : Rule) → getD (plateAt (edition1 .width) s .rules) i d ≡ ruleAt s (getD places i 0)
+  pub placed-room : i < length places
+  placed-room = omega (arith, p .room, counted)
+
+  pub placed-here : Here s (getD places i 0)
+  placed-here =
+      let n = ruleCount (countWidth s) s in
+      subst (Here s) (sym (p .at i counted)) (stands-at s n (rulesPlace (countWidth s) s) i (all-stand s a n refl) counted)
+
+  pub placed-rule : (d : Rule) → getD (plateIn s .rules) i d ≡ ruleAt s (getD places i 0)
   placed-rule d =
-      getD-many (ruleAt s) (ruleEnd s) (ruleCount (edition1 .width) s) (rulesPlace (edition1 .width) s) i d (subst (λ (m : ℕ). i < m) e l) ∙ ap (ruleAt s) (sym (p .at i l))
+      getD-many (ruleAt s) (ruleEnd s) (ruleCount (countWidth s) s) (rulesPlace (countWidth s) s) i d counted ∙ ap (ruleAt s) (sym (p .at i counted))

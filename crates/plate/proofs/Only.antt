@@ -8,10 +8,10 @@ use denote.Ref.{RefT, now}
 use Rattle.laws.proofs.Only.{only}
 use Rattle.chars.specs.Utf8.{charOf}
 use Rattle.plate.specs.Bits.{numberAt}
-use Rattle.plate.specs.Plate.{edition1}
-use Rattle.plate.specs.Read.{patternAt, ruleAt, foldingAt, foldBy, ruleCount, rulesPlace, plateAt, acceptedIn}
-use Rattle.plate.specs.Answers.{bytesAt, frontOf, frontTo, goodText}
+use Rattle.plate.specs.Read.{patternAt, ruleAt, foldingAt, foldBy, rulesPlace, countWidth, accepted, plateIn}
+use Rattle.plate.specs.Answers.{bytesAt, frontOf, frontTo, goodText, HeadIs}
 use Rattle.plate.specs.Stands.{Stands, LetterIs, fieldOf, heldField}
+use Rattle.plate.specs.declared.edition.Head.{Head}
 use Rattle.plate.specs.declared.Front.{Front}
 use Rattle.plate.specs.declared.Letter.{Letter}
 use Rattle.plate.specs.declared.Field.{Field}
@@ -32,17 +32,20 @@ module _ (s : List ℕ) where
   pub is-text : (at n : ℕ) (r r′ : Bool) → r ≡ goodText (bytesAt s n at) → r′ ≡ goodText (bytesAt s n at) → r ≡ r′
   is-text at n r r′ e f = only e f
 
-  pub accept : (r r′ : Bool) → r ≡ acceptedIn edition1 s → r′ ≡ acceptedIn edition1 s → r ≡ r′
+  pub head-of : (rules : ℕ) (r r′ : Head) → HeadIs rules r → HeadIs rules r′ → r ≡ r′
+  head-of rules r r′ e f = λ i. record { number = only (e .number) (f .number) i; width = only (e .width) (f .width) i }
+
+  pub accept : (r r′ : Bool) → r ≡ accepted s → r′ ≡ accepted s → r ≡ r′
   accept r r′ e f = only e f
 
-  pub flag : (r r′ : Bool) → r ≡ plateAt (edition1 .width) s .flag → r′ ≡ plateAt (edition1 .width) s .flag → r ≡ r′
+  pub flag : (r r′ : Bool) → r ≡ plateIn s .flag → r′ ≡ plateIn s .flag → r ≡ r′
   flag r r′ e f = only e f
 
-  pub fold : (c r r′ : ℕ) → r ≡ foldBy (plateAt (edition1 .width) s .foldings) c → r′ ≡ foldBy (plateAt (edition1 .width) s .foldings) c → r ≡ r′
+  pub fold : (c r r′ : ℕ) → r ≡ foldBy (plateIn s .foldings) c → r′ ≡ foldBy (plateIn s .foldings) c → r ≡ r′
   fold c r r′ e f = only e f
 
-  pub rule-count : (r r′ : ℕ) → (r ≡ ruleCount (edition1 .width) s) × Stands s r (rulesPlace (edition1 .width) s)
-      → (r′ ≡ ruleCount (edition1 .width) s) × Stands s r′ (rulesPlace (edition1 .width) s) → r ≡ r′
+  pub rule-count : (r r′ : ℕ) → (r ≡ length (plateIn s .rules)) × Stands s r (rulesPlace (countWidth s) s)
+      → (r′ ≡ length (plateIn s .rules)) × Stands s r′ (rulesPlace (countWidth s) s) → r ≡ r′
   rule-count r r′ e f = only (e .0) (f .0)
 
   pub pattern-length : (at r r′ : ℕ) → (r ≡ length (patternAt s at)) × (0 < r) × (r ≤ 16) → (r′ ≡ length (patternAt s at)) × (0 < r′) × (r′ ≤ 16) → r ≡ r′

@@ -3,7 +3,7 @@
 -- Over any edition whose number is a byte and whose rule count fits its width. Assumes nothing.
 use Prim.Native.Nat.{ℕ, zero, suc, _+_, _-_, _*_, _/_, _%_, _^_, _<_, _≤_}
 use mathlib.Core.Path.{_≡_, refl, sym, _∙_, ap, ap₂, subst}
-use mathlib.Core.Bool.{Bool, true, false, _&&_, cond, false≢true}
+use mathlib.Core.Bool.{Bool, true, false, _&&_, _||_, cond, false≢true}
 use mathlib.Core.Option.{Option, none, some}
 use mathlib.Core.List.{List, [], _∷_, _++_, append-assoc, append-nil}
 use native.Mathlib.Omega.{arith}
@@ -11,24 +11,25 @@ use native.Mathlib.Nat.{lt-of-le-of-lt}
 use lib.Pow.{pow-pos}
 use lib.Dec.{ltb, leb, eqb, lit<}
 use lib.ListN.{length, drop, replicate, length-append, length-replicate, length-drop, drop-of-length-le}
-use borrow.Author.Tests.{leb-true, eqb-true, eq-eqb, eqb-false}
+use borrow.Author.Tests.{leb-true, leb-false, eqb-true, eqb-false, eq-eqb}
 use Rattle.laws.specs.Lists.{every, between, cat}
-use Rattle.laws.proofs.Tests.{and-true, both-true, between-true}
+use Rattle.laws.proofs.Tests.{and-true, both-true, between-true, is-between, by-test}
 use Rattle.laws.proofs.Bits.{join-four, join-five}
 use Rattle.chars.specs.Utf8.{scalar, isText}
 use Rattle.chars.proofs.Exact.{scalar-most}
 use Rattle.chars.specs.Digits.{digit, isAlternative}
 use Rattle.plate.specs.Bits.{bitsOf, unpack, pack, numberAt}
-use Rattle.plate.specs.Plate.{Folding, Rule, Plate, Edition, edition1, mostFoldings, goodField, nonzeroByte, goodPattern, goodRule, nonzeroScalar, goodFolding}
-use Rattle.plate.specs.Plate.{rising, ordered, goodFoldings, goodRules, goodPlate}
-use Rattle.plate.specs.Written.{counted, digitBits, alternativeBits, fieldBits, ruleBits, foldingBits, flagBit, headBits, plateBits, plateBytes}
+use Rattle.plate.specs.Plate.{Folding, Rule, Plate, Edition, edition1, edition2, editionFor, mostFoldings, goodField, nonzeroByte, goodPattern, goodRule, nonzeroScalar, goodFolding}
+use Rattle.plate.specs.Plate.{rising, ordered, goodFoldings, goodRules, goodIn, goodPlate}
+use Rattle.plate.specs.Most.{mostRules}
+use Rattle.plate.specs.Written.{counted, digitBits, alternativeBits, fieldBits, ruleBits, foldingBits, flagBit, headIn, headOf, headBits, plateBits, bytesIn, plateBytes}
 use Rattle.plate.specs.Read.{many, past, alternativeAt, alternativeEnd, fieldAt, fieldEnd, patternAt, startPlace, vowelPlace, otherPlace, ruleAt, ruleEnd, foldingAt}
 use Rattle.plate.specs.Read.{foldingEnd, ruleCount, foldingCount, flagNumber, reserved, foldingsPlace, rulesPlace, plateAt, plateEnd, closed, acceptedIn, readIn}
-use Rattle.plate.specs.Read.{readPlate}
+use Rattle.plate.specs.Read.{readBefore, editionOf, accepted, readPlate}
 use Rattle.plate.proofs.Packed.{Binary, Bytes, zero-bits, binary-append, binary-bitsOf, binary-cat, unpack-pack, pack-unpack, pack-fill}
 use Rattle.plate.proofs.Place.{number-lt, length-unpack, wrote, reads, At}
 use Rattle.plate.proofs.Listed.{length-many, past-grows, past-add}
-use Rattle.plate.proofs.Facts.{says-good}
+use Rattle.plate.proofs.Facts.{says-good, tells-1, tells-2, asks-1, asks-2}
 
 -- ---- the flag
 
@@ -348,33 +349,33 @@ module _ (e : Edition) (p : Plate) where
 -- ---- whole plates
 
 -- A good plate: its rules and foldings fit their counts, and each is good.
-module _ (e : Edition) (p : Plate) (h : goodPlate e p ≡ true) where
-  few-rules : length (p .rules) ≤ e .most
-  few-rules =
-      leb-true (length (p .rules)) (e .most) (and-true (leb (length (p .rules)) (e .most)) (every goodRule (p .rules) && ordered (p .rules))
-      (and-true (goodRules (e .most) (p .rules)) (goodFoldings (p .foldings)) h .0) .0)
+module _ (e : Edition) (p : Plate) (h : goodIn e p ≡ true) where
+  rules-fit : (e .least ≤ length (p .rules)) × (length (p .rules) ≤ e .most)
+  rules-fit =
+      between-true (e .least) (e .most) (length (p .rules)) (and-true (between (e .least) (e .most) (length (p .rules))) (every goodRule (p .rules) && ordered (p .rules))
+      (and-true (goodRules e (p .rules)) (goodFoldings (p .foldings)) h .0) .0)
 
   few-foldings : length (p .foldings) ≤ mostFoldings
   few-foldings =
       leb-true (length (p .foldings)) mostFoldings (and-true (leb (length (p .foldings)) mostFoldings) (every goodFolding (p .foldings) && rising (p .foldings))
-      (and-true (goodRules (e .most) (p .rules)) (goodFoldings (p .foldings)) h .1) .0)
+      (and-true (goodRules e (p .rules)) (goodFoldings (p .foldings)) h .1) .0)
 
   all-rules : every goodRule (p .rules) ≡ true
   all-rules =
-      and-true (every goodRule (p .rules)) (ordered (p .rules)) (and-true (leb (length (p .rules)) (e .most)) (every goodRule (p .rules) && ordered (p .rules))
-      (and-true (goodRules (e .most) (p .rules)) (goodFoldings (p .foldings)) h .0) .1) .0
+      and-true (every goodRule (p .rules)) (ordered (p .rules)) (and-true (between (e .least) (e .most) (length (p .rules))) (every goodRule (p .rules) && ordered (p .rules))
+      (and-true (goodRules e (p .rules)) (goodFoldings (p .foldings)) h .0) .1) .0
 
   all-foldings : every goodFolding (p .foldings) ≡ true
   all-foldings =
       and-true (every goodFolding (p .foldings)) (rising (p .foldings)) (and-true (leb (length (p .foldings)) mostFoldings) (every goodFolding (p .foldings) && rising (p .foldings))
-      (and-true (goodRules (e .most) (p .rules)) (goodFoldings (p .foldings)) h .1) .1) .0
+      (and-true (goodRules e (p .rules)) (goodFoldings (p .foldings)) h .1) .1) .0
 
 module _ (e : Edition) (number : e .number < 256) (width : e .width ≤ 15) (most : e .most < 2 ^ e .width) where
   abbrev w : ℕ
   w = e .width
 
   -- Bytes whose bits are a good plate's and the fill are accepted, and say that plate.
-  module _ (s : List ℕ) (p : Plate) (h : goodPlate e p ≡ true) (k : ℕ) (small : k < 8) (x : unpack s ≡ plateBits e p ++ replicate k 0) where
+  module _ (s : List ℕ) (p : Plate) (h : goodIn e p ≡ true) (k : ℕ) (small : k < 8) (x : unpack s ≡ plateBits e p ++ replicate k 0) where
     read-back : (acceptedIn e s ≡ true) × (plateAt w s ≡ p)
     read-back =
         let zeros : List ℕ = replicate k 0 in
@@ -382,7 +383,7 @@ module _ (e : Edition) (number : e .number < 256) (width : e .width ≤ 15) (mos
         let few : length (p .foldings) < 256 = omega (arith, few-foldings e p h) in
         let x0 : At s 0 (headBits e p ++ rest) = split s 0 (headBits e p) (fs e p ++ rs e p) zeros (omega arith, x) in
         let hr = head-reads s w width (e .number) (length (p .rules)) (length (p .foldings)) (flagBit (p .flag)) rest number
-        (lt-of-le-of-lt (few-rules e p h) most) few (flag-small (p .flag))
+        (lt-of-le-of-lt (rules-fit e p h .1) most) few (flag-small (p .flag))
         (x0 .0, x0 .1 ∙ join-five (l1 e p) (l2 e p) (l3 e p) (l4 e p) (l5 e p) rest) in
         let fr = many-reads s (foldingAt s) foldingEnd foldingBits goodFolding (folding-reads s) (p .foldings) foldingsPlace (rs e p ++ zeros) (all-foldings e p h)
         (split s foldingsPlace (fs e p) (rs e p) zeros (hr .behind)) in
@@ -394,7 +395,7 @@ module _ (e : Edition) (number : e .number < 256) (width : e .width ≤ 15) (mos
           rules = (ap (λ (n : ℕ). many (ruleAt s) (ruleEnd s) n (rulesPlace w s)) (hr .rules) ∙ rr .0) i;
         } in
         let x2 : At s (plateEnd w s) zeros = subst (λ (n : ℕ). At s (past (ruleEnd s) n (rulesPlace w s)) zeros) (sym (hr .rules)) (rr .1) in (
-          both-true (eq-eqb _ _ (hr .edition)) (both-true (eq-eqb _ _ (hr .empty)) (both-true (ap (goodPlate e) same ∙ h) (closed-reads s (plateEnd w s) k small x2))),
+          both-true (eq-eqb _ _ (hr .edition)) (both-true (eq-eqb _ _ (hr .empty)) (both-true (ap (goodIn e) same ∙ h) (closed-reads s (plateEnd w s) k small x2))),
           same,
         )
 
@@ -403,9 +404,9 @@ module _ (e : Edition) (number : e .number < 256) (width : e .width ≤ 15) (mos
       → (unpack s ≡ plateBits e (plateAt w s) ++ replicate (8 * length s - plateEnd w s) 0) × (8 * length s - plateEnd w s < 8)
   written-bits s h =
       let p = plateAt w s in
-      let b = and-true (eqb (numberAt s 0 8) (e .number)) (eqb (reserved w s) 0 && (goodPlate e p && closed s (plateEnd w s))) h in
-      let b1 = and-true (eqb (reserved w s) 0) (goodPlate e p && closed s (plateEnd w s)) (b .1) in
-      let b2 = and-true (goodPlate e p) (closed s (plateEnd w s)) (b1 .1) in
+      let b = and-true (eqb (numberAt s 0 8) (e .number)) (eqb (reserved w s) 0 && (goodIn e p && closed s (plateEnd w s))) h in
+      let b1 = and-true (eqb (reserved w s) 0) (goodIn e p && closed s (plateEnd w s)) (b .1) in
+      let b2 = and-true (goodIn e p) (closed s (plateEnd w s)) (b1 .1) in
       let c = closed-wrote s (plateEnd w s) (b2 .1) in
       let g = past-grows (ruleEnd s) (rule-grows s) (ruleCount w s) (rulesPlace w s) in
       let q = past-add 42 (foldingCount w s) 32 in
@@ -430,17 +431,17 @@ module _ (e : Edition) (number : e .number < 256) (width : e .width ≤ 15) (mos
       )
 
   -- The bytes of a good plate are accepted.
-  pub plate-accepted : (p : Plate) → goodPlate e p ≡ true → acceptedIn e (plateBytes e p) ≡ true
-  plate-accepted p h = let u = unpack-pack (plateBits e p) (binary-plate e p) in read-back (plateBytes e p) p h (u .0) (u .2) (u .1) .0
+  pub accepted-in : (p : Plate) → goodIn e p ≡ true → acceptedIn e (bytesIn e p) ≡ true
+  accepted-in p h = let u = unpack-pack (plateBits e p) (binary-plate e p) in read-back (bytesIn e p) p h (u .0) (u .2) (u .1) .0
 
   -- What is written is read.
-  pub plate-reads : (p : Plate) → goodPlate e p ≡ true → readIn e (plateBytes e p) ≡ some p
-  plate-reads p h =
+  pub reads-in : (p : Plate) → goodIn e p ≡ true → readIn e (bytesIn e p) ≡ some p
+  reads-in p h =
       let u = unpack-pack (plateBits e p) (binary-plate e p) in
-      let r = read-back (plateBytes e p) p h (u .0) (u .2) (u .1) in
+      let r = read-back (bytesIn e p) p h (u .0) (u .2) (u .1) in
       ap₂ (λ (t : Bool) (q : Plate). cond t (some q) none) (r .0) (r .1)
 
-  accepted-exact : (s : List ℕ) → Bytes s → acceptedIn e s ≡ true → s ≡ plateBytes e (plateAt w s)
+  accepted-exact : (s : List ℕ) → Bytes s → acceptedIn e s ≡ true → s ≡ bytesIn e (plateAt w s)
   accepted-exact s b h =
       let r = written-bits s h in
       let l = plateBits e (plateAt w s) in
@@ -452,8 +453,8 @@ module _ (e : Edition) (number : e .number < 256) (width : e .width ≤ 15) (mos
       whole n m e = omega arith
 
   -- What is read was written.
-  pub plate-exact : (s : List ℕ) (p : Plate) → Bytes s → readIn e s ≡ some p → (s ≡ plateBytes e p) × (goodPlate e p ≡ true)
-  plate-exact s p b h = go (acceptedIn e s) refl h
+  pub exact-in : (s : List ℕ) (p : Plate) → Bytes s → readIn e s ≡ some p → (s ≡ bytesIn e p) × (goodIn e p ≡ true)
+  exact-in s p b h = go (acceptedIn e s) refl h
     where
       said : Option Plate → Plate
       said (some q) = q
@@ -463,27 +464,129 @@ module _ (e : Edition) (number : e .number < 256) (width : e .width ≤ 15) (mos
       is-some (some q) = true
       is-some none = false
 
-      go : (t : Bool) → acceptedIn e s ≡ t → cond t (some (plateAt w s)) none ≡ some p → (s ≡ plateBytes e p) × (goodPlate e p ≡ true)
-      go true a r = (accepted-exact s b a ∙ ap (plateBytes e) (ap said r), ap (goodPlate e) (sym (ap said r)) ∙ says-good e s a)
+      go : (t : Bool) → acceptedIn e s ≡ t → cond t (some (plateAt w s)) none ≡ some p → (s ≡ bytesIn e p) × (goodIn e p ≡ true)
+      go true a r = (accepted-exact s b a ∙ ap (bytesIn e) (ap said r), ap (goodIn e) (sym (ap said r)) ∙ says-good e s a)
       go false a r = absurd (false≢true (ap is-some r))
 
--- ---- edition 1
+-- ---- the two editions
 
-number-1 : edition1 .number < 256
-number-1 = lit< tt
+-- What holds of each: its number is a byte, its count has room for the most rules, a first byte tells it, and so does the number of rules.
+record IsEdition (e : Edition) : Type 0 where
+  number : e .number < 256
+  width : e .width ≤ 15
+  most : e .most < 2 ^ e .width
+  of : (s : List ℕ) → numberAt s 0 8 ≡ e .number → editionOf s ≡ e
+  for : (n : ℕ) → e .least ≤ n → n ≤ e .most → editionFor n ≡ e
 
-width-1 : edition1 .width ≤ 15
-width-1 = omega arith
+is-1 : IsEdition edition1
+is-1 =
+    record {
+      number = lit< tt;
+      width = omega arith;
+      most = lit< tt;
+      of = λ s h. tells-1 s (numberAt s 0 8) refl (λ e. absurd (omega (arith, h, e)));
+      for = λ n low high. asks-1 n high;
+    }
 
-most-1 : edition1 .most < 2 ^ edition1 .width
-most-1 = lit< tt
+is-2 : IsEdition edition2
+is-2 =
+    record {
+      number = lit< tt;
+      width = omega arith;
+      most = lit< tt;
+      of = λ s h. tells-2 s (numberAt s 0 8) refl h;
+      for = λ n low high. asks-2 n low;
+    }
 
--- What is written in edition 1 is read, and what is read as edition 1 was written so.
-pub edition1-reads : (p : Plate) → goodPlate edition1 p ≡ true → readPlate (plateBytes edition1 p) ≡ some p
-edition1-reads = plate-reads edition1 number-1 width-1 most-1
+is-of : (s : List ℕ) → IsEdition (editionOf s)
+is-of s = by-test IsEdition (eqb (numberAt s 0 8) 2) edition2 edition1 (λ _. is-2) (λ _. is-1)
 
-pub edition1-exact : (s : List ℕ) (p : Plate) → Bytes s → readPlate s ≡ some p → (s ≡ plateBytes edition1 p) × (goodPlate edition1 p ≡ true)
-edition1-exact = plate-exact edition1 number-1 width-1 most-1
+is-for : (n : ℕ) → IsEdition (editionFor n)
+is-for n = by-test IsEdition (leb n 512) edition1 edition2 (λ _. is-1) (λ _. is-2)
 
-pub edition1-accepted : (p : Plate) → goodPlate edition1 p ≡ true → acceptedIn edition1 (plateBytes edition1 p) ≡ true
-edition1-accepted = plate-accepted edition1 number-1 width-1 most-1
+-- Bytes that an edition accepts tell that edition.
+tells : (e : Edition) → IsEdition e → (s : List ℕ) → acceptedIn e s ≡ true → editionOf s ≡ e
+tells e is s h =
+    is .of s (eqb-true (numberAt s 0 8) (e .number) (and-true (eqb (numberAt s 0 8) (e .number))
+    (eqb (reserved (e .width) s) 0 && (goodIn e (plateAt (e .width) s) && closed s (plateEnd (e .width) s))) h .0))
+
+-- No bytes are plates of two editions, and bytes are a plate exactly if they are one of some edition.
+pub one-edition : (s : List ℕ) → acceptedIn edition1 s ≡ true → acceptedIn edition2 s ≡ true → ⊥
+one-edition s h k = let e = ap (λ (e : Edition). e .number) (sym (tells edition1 is-1 s h) ∙ tells edition2 is-2 s k) in absurd (omega arith)
+
+pub some-edition : (s : List ℕ) → accepted s ≡ acceptedIn edition1 s || acceptedIn edition2 s
+some-edition s = go (acceptedIn edition1 s) (acceptedIn edition2 s) refl refl
+  where
+    go : (a b : Bool) → acceptedIn edition1 s ≡ a → acceptedIn edition2 s ≡ b → accepted s ≡ a || b
+    go true b h k = ap (λ (e : Edition). acceptedIn e s) (tells edition1 is-1 s h) ∙ h
+    go false true h k = ap (λ (e : Edition). acceptedIn e s) (tells edition2 is-2 s k) ∙ k
+    go false false h k = by-test (λ e. acceptedIn e s ≡ false) (eqb (numberAt s 0 8) 2) edition2 edition1 (λ _. k) (λ _. h)
+
+-- A plate of before reads as before.
+pub reads-before : (s : List ℕ) (p : Plate) → readBefore s ≡ some p → readPlate s ≡ some p
+reads-before s p h = go (acceptedIn edition1 s) refl
+  where
+    is-some : Option Plate → Bool
+    is-some (some q) = true
+    is-some none = false
+
+    go : (t : Bool) → acceptedIn edition1 s ≡ t → readPlate s ≡ some p
+    go true a = ap (λ (e : Edition). readIn e s) (tells edition1 is-1 s a) ∙ h
+    go false a = absurd (false≢true (ap is-some (sym (ap (λ (t : Bool). cond t (some (plateAt 10 s)) none) a) ∙ h)))
+
+-- ---- without an edition
+
+-- The bytes of a good plate are accepted.
+pub plate-accepted : (p : Plate) → goodPlate p ≡ true → accepted (plateBytes p) ≡ true
+plate-accepted p h =
+    let e = editionFor (length (p .rules)) in
+    let is = is-for (length (p .rules)) in
+    let a = accepted-in e (is .number) (is .width) (is .most) p h in
+    ap (λ (x : Edition). acceptedIn x (bytesIn e p)) (tells e is (bytesIn e p) a) ∙ a
+
+-- What is written is read.
+pub plate-reads : (p : Plate) → goodPlate p ≡ true → readPlate (plateBytes p) ≡ some p
+plate-reads p h =
+    let e = editionFor (length (p .rules)) in
+    let is = is-for (length (p .rules)) in
+    let a = accepted-in e (is .number) (is .width) (is .most) p h in
+    ap (λ (x : Edition). readIn x (bytesIn e p)) (tells e is (bytesIn e p) a) ∙ reads-in e (is .number) (is .width) (is .most) p h
+
+-- What is read was written.
+pub plate-exact : (s : List ℕ) (p : Plate) → Bytes s → readPlate s ≡ some p → (s ≡ plateBytes p) × (goodPlate p ≡ true)
+plate-exact s p b h =
+    let e = editionOf s in
+    let is = is-of s in
+    let x = exact-in e (is .number) (is .width) (is .most) s p b h in
+    let f = rules-fit e p (x .1) in
+    let same = is .for (length (p .rules)) (f .0) (f .1) in
+    (x .0 ∙ ap (λ (y : Edition). bytesIn y p) (sym same), ap (λ (y : Edition). goodIn y p) same ∙ x .1)
+
+-- A head takes 32 bits, whatever its edition.
+pub head-length : (rules foldings : ℕ) (flag : Bool) → length (headOf rules foldings flag) ≡ 32
+head-length rules foldings flag = by-test (λ e. length (headIn e rules foldings flag) ≡ 32) (leb rules 512) edition1 edition2 (λ _. refl) (λ _. refl)
+
+-- What a good plate holds, whatever its edition.
+pub record GoodIs (p : Plate) : Type 0 where
+  pub few : length (p .rules) ≤ mostRules
+  pub rules : every goodRule (p .rules) ≡ true
+  pub order : ordered (p .rules) ≡ true
+  pub foldings : goodFoldings (p .foldings) ≡ true
+
+pub good-is : (p : Plate) → goodPlate p ≡ true → GoodIs p
+good-is p h =
+    let n = length (p .rules) in
+    let e = editionFor n in
+    let fit = rules-fit e p h .1 in
+    let most = by-test (λ e. e .most ≤ mostRules) (leb n 512) edition1 edition2 (λ _. omega arith) (λ _. omega arith) in
+    let a = and-true (goodRules e (p .rules)) (goodFoldings (p .foldings)) h in
+    let b = and-true (every goodRule (p .rules)) (ordered (p .rules)) (and-true (between (e .least) (e .most) n) (every goodRule (p .rules) && ordered (p .rules)) (a .0) .1) in
+    record { few = omega (arith, fit, most); rules = b .0; order = b .1; foldings = a .1 }
+
+pub is-good : (p : Plate) → GoodIs p → goodPlate p ≡ true
+is-good p h =
+    let n = length (p .rules) in
+    let fits : between (editionFor n .least) (editionFor n .most) n ≡ true =
+    by-test (λ e. between (e .least) (e .most) n ≡ true) (leb n 512) edition1 edition2
+    (λ t. is-between 0 512 n (omega arith) (leb-true n 512 t)) (λ t. is-between 513 1500 n (leb-false n 512 t) (h .few)) in
+    both-true (both-true fits (both-true (h .rules) (h .order))) (h .foldings)

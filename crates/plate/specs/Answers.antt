@@ -1,5 +1,6 @@
 -- What the functions that read a plate answer, in the words of the definitions. Assumes nothing.
-use Prim.Native.Nat.{ℕ, zero, suc, _+_, _*_, _/_, _%_, _≤_}
+use Prim.Native.Nat.{ℕ, zero, suc, _+_, _*_, _/_, _%_, _^_, _<_, _≤_}
+use mathlib.Core.Path.{_≡_}
 use mathlib.Core.Bool.{Bool, true, false, cond, _&&_, _||_}
 use mathlib.Core.List.{List, [], _∷_}
 use lib.Dec.{ltb, leb, eqb}
@@ -10,8 +11,10 @@ use Rattle.chars.specs.declared.Char.{Char}
 use Rattle.chars.specs.declared.Char.the-variants.{One, Bad, End}
 use Rattle.chars.specs.Digits.{isAlternative}
 use Rattle.plate.specs.Bits.{numberAt}
-use Rattle.plate.specs.Plate.{Folding, Rule, Edition, nonzeroByte, goodField, goodPattern, goodRule, goodFolding, rising, firstCode, ordered}
+use Rattle.plate.specs.Plate.{Folding, Rule, Edition, editionFor, nonzeroByte, goodField, goodPattern, goodRule, goodFolding, rising, firstCode, ordered}
 use Rattle.plate.specs.Read.{many, past, alternativeAt, alternativeEnd, fieldAt, fieldEnd, ruleAt, ruleEnd, foldingAt, foldingEnd}
+use Rattle.plate.specs.Most.{mostRules}
+use Rattle.plate.specs.declared.edition.Head.{Head}
 use Rattle.plate.specs.declared.Step.{Step}
 use Rattle.plate.specs.declared.Step.the-variants.{To, Nowhere}
 use Rattle.plate.specs.declared.Front as Front
@@ -133,5 +136,13 @@ keyBehind s at k = cond (goodFolding (foldingAt s at) && ltb k (numberAt s at 21
 
 -- ---- editions
 
-abbrev pub edition : ℕ → ℕ → ℕ → Edition
-edition number width most = record { number = number; width = width; most = most }
+-- the head that so many rules ask for
+pub record HeadIs (rules : ℕ) (r : Head) : Type 0 where
+  pub number : r .number ≡ editionFor rules .number
+  pub width : r .width ≡ editionFor rules .width
+  pub byte : r .number < 256
+  pub narrow : r .width ≤ 15
+  pub room : rules ≤ mostRules → rules < 2 ^ r .width
+
+abbrev pub edition : ℕ → ℕ → ℕ → ℕ → Edition
+edition number width least most = record { number = number; width = width; least = least; most = most }

@@ -9,7 +9,7 @@ use lib.ListN.{length, take, drop, getD, set, replicate}
 use lib.Seq.{slice}
 use Rattle.laws.specs.Lists.{every}
 use Rattle.plate.specs.Plate.{Rule, firstCode}
-use Rattle.plate.specs.Read.{many, past, ruleAt, ruleEnd, ruleCount, rulesPlace}
+use Rattle.plate.specs.Read.{many, past, ruleAt, ruleEnd, ruleCount, rulesPlace, countWidth}
 use Rattle.plate.specs.declared.Step.{Step}
 use Rattle.plate.specs.declared.Step.the-variants.{To, Nowhere}
 
@@ -66,8 +66,15 @@ abbrev pub NotedFrom : List ℕ → ℕ → ℕ → List ℕ → List ℕ → Ty
 NotedFrom s from n places groups = Placed s from n places × Grouped s from n groups
 
 -- of all rules of a plate, whose rule count is w bits wide
-abbrev pub Noted : ℕ → List ℕ → List ℕ → List ℕ → Type 0
-Noted w s places groups = NotedFrom s (rulesPlace w s) (ruleCount w s) places groups
+abbrev pub NotedIn : ℕ → List ℕ → List ℕ → List ℕ → Type 0
+NotedIn w s places groups = NotedFrom s (rulesPlace w s) (ruleCount w s) places groups
+
+-- of all rules of a plate
+abbrev pub AllPlaced : List ℕ → List ℕ → Type 0
+AllPlaced s places = Placed s (rulesPlace (countWidth s) s) (ruleCount (countWidth s) s) places
+
+abbrev pub Noted : List ℕ → List ℕ → List ℕ → Type 0
+Noted s places groups = NotedIn (countWidth s) s places groups
 
 -- Rule i, of first code point c, stands behind rules of which the last group, that of `code`, began at `begun`: it belongs to that group, or begins one
 -- and that group is noted.
@@ -85,6 +92,7 @@ abbrev pub NotedTo : Step → List ℕ → ℕ → ℕ → List ℕ → List ℕ
 NotedTo (To at) s from n places groups = NotedFrom s from n places groups
 NotedTo Nowhere s from n places groups = Unit {0}
 
+-- where bytes are accepted, their rules are noted
 abbrev pub NotedIf : Bool → ℕ → List ℕ → List ℕ → List ℕ → Type 0
-NotedIf true w s places groups = Noted w s places groups
+NotedIf true w s places groups = NotedIn w s places groups
 NotedIf false w s places groups = Unit {0}

@@ -1,6 +1,6 @@
--- What a plate holds, and what it may hold. 01, "The plate, bits most significant first". Assumes nothing.
+-- What a plate holds, and what it may hold. 01, "The plate, bits most significant first"; 02, M-106. Assumes nothing.
 use Prim.Native.Nat.{ℕ}
-use mathlib.Core.Bool.{Bool, true, _&&_, _||_}
+use mathlib.Core.Bool.{Bool, true, cond, _&&_, _||_}
 use mathlib.Core.List.{List, [], _∷_}
 use lib.Dec.{ltb, leb, eqb}
 use lib.ListN.{length}
@@ -24,14 +24,24 @@ pub record Plate : Type 0 where
   pub foldings : List Folding
   pub rules : List Rule
 
--- An edition: its number, the width of its rule count in bits, and the most rules.
+-- An edition: its number, the width of its rule count in bits, the least and the most rules.
 pub record Edition : Type 0 where
   pub number : ℕ
   pub width : ℕ
+  pub least : ℕ
   pub most : ℕ
 
+-- 01: "8 bits edition 1; 10 bits rule count", "at most 512 rules"
 abbrev pub edition1 : Edition
-edition1 = record { number = 1; width = 10; most = 512 }
+edition1 = record { number = 1; width = 10; least = 0; most = 512 }
+
+-- 02, M-106: "Edition 2 has an 11-bit count and 4 zero bits; all else is as in edition 1. [..] an edition 2 plate with 512 or fewer, or over 1,500, is refused"
+abbrev pub edition2 : Edition
+edition2 = record { number = 2; width = 11; least = 513; most = 1500 }
+
+-- the edition of n rules: "Build writes edition 1 up to 512 rules and edition 2 above"
+abbrev pub editionFor : ℕ → Edition
+editionFor n = cond (leb n (edition1 .most)) edition1 edition2
 
 -- ---- the table's limits: "pattern 1 to 16 bytes, 1 to 8 alternatives, 0 to 6 digits, [..] 128 foldings"
 
@@ -93,9 +103,13 @@ ordered (r ∷ q ∷ more) = mayPrecede r q && ordered (q ∷ more)
 abbrev pub goodFoldings : List Folding → Bool
 goodFoldings fs = leb (length fs) mostFoldings && (every goodFolding fs && rising fs)
 
-abbrev pub goodRules : ℕ → List Rule → Bool
-goodRules most rs = leb (length rs) most && (every goodRule rs && ordered rs)
+abbrev pub goodRules : Edition → List Rule → Bool
+goodRules e rs = between (e .least) (e .most) (length rs) && (every goodRule rs && ordered rs)
 
 -- the plate obeys the table, in an edition
-abbrev pub goodPlate : Edition → Plate → Bool
-goodPlate e p = goodRules (e .most) (p .rules) && goodFoldings (p .foldings)
+abbrev pub goodIn : Edition → Plate → Bool
+goodIn e p = goodRules e (p .rules) && goodFoldings (p .foldings)
+
+-- in the edition of its number of rules
+abbrev pub goodPlate : Plate → Bool
+goodPlate p = goodIn (editionFor (length (p .rules))) p

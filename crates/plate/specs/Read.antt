@@ -8,7 +8,7 @@ use mathlib.Core.List.{List, [], _∷_}
 use lib.Dec.{eqb}
 use lib.ListN.{length}
 use Rattle.plate.specs.Bits.{numberAt}
-use Rattle.plate.specs.Plate.{Folding, Rule, Plate, Edition, edition1, goodPlate}
+use Rattle.plate.specs.Plate.{Folding, Rule, Plate, Edition, edition1, edition2, goodIn}
 
 -- ---- n things one behind the other, from what stands at a place and the place behind it; and the place behind all
 
@@ -110,11 +110,31 @@ closed s end = eqb ((end + 7) / 8) (length s) && eqb (numberAt s end (7 - (end +
 
 abbrev pub acceptedIn : Edition → List ℕ → Bool
 acceptedIn e s =
-    eqb (numberAt s 0 8) (e .number) && (eqb (reserved (e .width) s) 0 && (goodPlate e (plateAt (e .width) s) && closed s (plateEnd (e .width) s)))
+    eqb (numberAt s 0 8) (e .number) && (eqb (reserved (e .width) s) 0 && (goodIn e (plateAt (e .width) s) && closed s (plateEnd (e .width) s)))
 
 abbrev pub readIn : Edition → List ℕ → Option Plate
 readIn e s = cond (acceptedIn e s) (some (plateAt (e .width) s)) none
 
+-- What bytes said before there was edition 2. 02, M-106: "Old plates stay valid with the same codes."
+abbrev pub readBefore : List ℕ → Option Plate
+readBefore s = readIn edition1 s
+
+-- ---- without an edition, which the first byte tells: nothing above this crate names one
+
+abbrev pub editionOf : List ℕ → Edition
+editionOf s = cond (eqb (numberAt s 0 8) (edition2 .number)) edition2 edition1
+
+-- the width of the rule count
+abbrev pub countWidth : List ℕ → ℕ
+countWidth s = editionOf s .width
+
+-- The bytes are a plate, and what they say.
+abbrev pub accepted : List ℕ → Bool
+accepted s = acceptedIn (editionOf s) s
+
+abbrev pub plateIn : List ℕ → Plate
+plateIn s = plateAt (countWidth s) s
+
 -- The plate that bytes are, if they are one.
 abbrev pub readPlate : List ℕ → Option Plate
-readPlate s = readIn edition1 s
+readPlate s = cond (accepted s) (some (plateIn s)) none

@@ -9,8 +9,7 @@ use Rattle.laws.specs.Lists as lists
 use Rattle.chars.specs.Utf8.{textFrom}
 use Rattle.chars.specs.Quoted.{bytes}
 use Rattle.plate.specs.Bits.{bit, numberAt}
-use Rattle.plate.specs.Plate.{edition1}
-use Rattle.plate.specs.Read.{readPlate, acceptedIn}
+use Rattle.plate.specs.Read.{readPlate, accepted}
 
 -- 01: "Whole example: `"a" "0" "" ""` and a newline, flag on: `01 00 40 20 0B 08 90 10 20`."
 abbrev pub whole : List ℕ
@@ -25,12 +24,18 @@ read-back = refl
 -- no plates: each breaks one condition of 01
 abbrev spoilt : List (List ℕ)
 spoilt =
-    -- a byte short, a byte that follows, a fill bit, a reserved bit, edition 2, no byte at all
+    -- a byte short, a byte that follows, a fill bit, each reserved bit, edition 2 without a rule, editions 0 and 3, no byte at all
     (0x01 ∷ 0x00 ∷ 0x40 ∷ 0x20 ∷ 0x0B ∷ 0x08 ∷ 0x90 ∷ 0x10 ∷ [])
     ∷ (0x01 ∷ 0x00 ∷ 0x00 ∷ 0x20 ∷ 0x00 ∷ [])
     ∷ (0x01 ∷ 0x00 ∷ 0x40 ∷ 0x20 ∷ 0x0B ∷ 0x08 ∷ 0x90 ∷ 0x10 ∷ 0x21 ∷ [])
     ∷ (0x01 ∷ 0x00 ∷ 0x00 ∷ 0x21 ∷ [])
-    ∷ (0x02 ∷ 0x00 ∷ 0x00 ∷ 0x20 ∷ [])
+    ∷ (0x01 ∷ 0x00 ∷ 0x00 ∷ 0x22 ∷ [])
+    ∷ (0x01 ∷ 0x00 ∷ 0x00 ∷ 0x24 ∷ [])
+    ∷ (0x01 ∷ 0x00 ∷ 0x00 ∷ 0x28 ∷ [])
+    ∷ (0x01 ∷ 0x00 ∷ 0x00 ∷ 0x30 ∷ [])
+    ∷ (0x02 ∷ 0x00 ∷ 0x00 ∷ 0x10 ∷ [])
+    ∷ (0x00 ∷ 0x00 ∷ 0x00 ∷ 0x20 ∷ [])
+    ∷ (0x03 ∷ 0x00 ∷ 0x00 ∷ 0x20 ∷ [])
     ∷ ([])
     -- a pattern of no bytes, of 17, with a zero byte, with a lone tail byte; a field of no alternatives, of 9; the digit 10; seven digits
     ∷ (0x01 ∷ 0x00 ∷ 0x40 ∷ 0x20 ∷ 0x00 ∷ 0x81 ∷ 0x02 ∷ 0x00 ∷ [])
@@ -52,6 +57,6 @@ spoilt =
     ∷ []
 
 -- The worked plate is one, and none of the spoilt ones.
-pub refused : T (acceptedIn edition1 whole && not (lists.some (acceptedIn edition1) spoilt))
+pub refused : T (accepted whole && not (lists.some accepted spoilt))
 unfolding numberAt bit textFrom
 refused = tt

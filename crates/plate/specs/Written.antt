@@ -5,7 +5,7 @@ use mathlib.Core.List.{List, _++_}
 use lib.ListN.{length}
 use Rattle.laws.specs.Lists.{cat}
 use Rattle.plate.specs.Bits.{bitsOf, pack}
-use Rattle.plate.specs.Plate.{Folding, Rule, Plate, Edition}
+use Rattle.plate.specs.Plate.{Folding, Rule, Plate, Edition, editionFor}
 
 -- a list: how many in w bits, then one behind the other
 abbrev pub counted : {A : Type 0} → ℕ → (A → List ℕ) → List A → List ℕ
@@ -34,14 +34,23 @@ foldingBits f = bitsOf 21 (f .key) ++ bitsOf 21 (f .target)
 abbrev pub flagBit : Bool → ℕ
 flagBit b = cond b 1 0
 
--- "8 bits edition 1; 10 bits rule count; 8 bits folding count; 1 bit folding flag; 5 zero bits": 32 in all, whatever the width of the rule count
+-- "8 bits edition 1; 10 bits rule count; 8 bits folding count; 1 bit folding flag; 5 zero bits"; "Edition 2 has an 11-bit count and 4 zero bits": 32 in all
+abbrev pub headIn : Edition → ℕ → ℕ → Bool → List ℕ
+headIn e rules foldings flag = bitsOf 8 (e .number) ++ (bitsOf (e .width) rules ++ (bitsOf 8 foldings ++ (bitsOf 1 (flagBit flag) ++ bitsOf (15 - e .width) 0)))
+
 abbrev pub headBits : Edition → Plate → List ℕ
-headBits e p =
-    bitsOf 8 (e .number) ++ (bitsOf (e .width) (length (p .rules)) ++ (bitsOf 8 (length (p .foldings)) ++ (bitsOf 1 (flagBit (p .flag)) ++ bitsOf (15 - e .width) 0)))
+headBits e p = headIn e (length (p .rules)) (length (p .foldings)) (p .flag)
 
 abbrev pub plateBits : Edition → Plate → List ℕ
 plateBits e p = headBits e p ++ (cat foldingBits (p .foldings) ++ cat ruleBits (p .rules))
 
 -- "Zero bits fill the last byte."
-abbrev pub plateBytes : Edition → Plate → List ℕ
-plateBytes e p = pack (plateBits e p)
+abbrev pub bytesIn : Edition → Plate → List ℕ
+bytesIn e p = pack (plateBits e p)
+
+-- "Build writes edition 1 up to 512 rules and edition 2 above": the head of so many rules and foldings, and the whole plate
+abbrev pub headOf : ℕ → ℕ → Bool → List ℕ
+headOf rules = headIn (editionFor rules) rules
+
+abbrev pub plateBytes : Plate → List ℕ
+plateBytes p = bytesIn (editionFor (length (p .rules))) p

@@ -6,15 +6,17 @@ ghost use Prim.Native.Nat.{ℕ, _+_, _*_, _≤_, _<_};
 ghost use lib.Dec.{ltb};
 ghost use lib.ListN.{length, replicate};
 ghost use Rattle.plate.specs.Bits.{numberAt};
-ghost use Rattle.plate.specs.Plate.{nonzeroScalar, goodFolding, mostFoldings, edition1};
+ghost use Rattle.plate.specs.Plate.{nonzeroScalar, goodFolding, mostFoldings};
 ghost use Rattle.plate.specs.Most.{mostRules, alternativeMost, fieldMost, ruleMost, foldingsMost, plateMost, farthest};
-ghost use Rattle.plate.specs.Read.{foldingAt, foldingsPlace, closed, acceptedIn};
+ghost use Rattle.plate.specs.Read.{foldingAt, foldingsPlace, closed, acceptedIn, countWidth, accepted};
 ghost use Rattle.plate.specs.Window.{Holds};
 ghost use Rattle.plate.specs.Answers.{bytesAt, lastDigits, upTo, alternativeStep, fieldStep, fieldsStep, firstOf, inOrder, ruleSeen, seenTo, rulesStep, foldingsGood, keyBehind, edition};
 ghost use Rattle.plate.specs.Noted.{notedCharacters, Unnoted, NotedTo, NotedIf};
 use super::CHARACTER_BITS;
-use super::COUNT_BITS;
-use super::EDITION;
+use super::COUNT_BITS_1;
+use super::COUNT_BITS_2;
+use super::EDITION_1;
+use super::EDITION_2;
 use super::FOLDING_BITS;
 use super::FOLDINGS;
 use super::First;
@@ -24,6 +26,7 @@ use super::MOST_BYTES;
 use super::MOST_DIGITS;
 use super::MOST_FOLDINGS;
 use super::MOST_RULES;
+use super::MOST_RULES_1;
 use super::NOTED;
 use super::Seen;
 use super::Step;
@@ -309,17 +312,18 @@ fn is_closed(plate: &[u8], end: usize) -> bool
     false
 }
 
-// The bytes are a plate of an edition (its number, the width of its rule count, and the most rules); if so, its rules are noted.
+// The bytes are a plate of an edition (its number, the width of its rule count, the least and the most rules); if so, its rules are noted.
 fn accept_in(
     plate: &[u8],
     number: u32,
     width: usize,
+    least: usize,
     most: usize,
     places: &mut [u32],
     groups: &mut [u32],
 ) -> bool
     requires { ⌜ (width ≤ 15) × (most ≤ mostRules) × Unnoted most (now places) (now groups) ⌝ }
-    ensures { λ r. ⌜ (r ≡ acceptedIn (edition number width most) (now (plate .entry))) × NotedIf r width (now (plate .entry)) (now (places .exit)) (now (groups .exit)) ⌝ }
+    ensures { λ r. ⌜ (r ≡ acceptedIn (edition number width least most) (now (plate .entry))) × NotedIf r width (now (plate .entry)) (now (places .exit)) (now (groups .exit)) ⌝ }
 {
     if bits(plate, 0, 8) != number {
         return false;
@@ -328,6 +332,9 @@ fn accept_in(
         return false;
     }
     let n = size(plate, 8, width);
+    if n < least {
+        return false;
+    }
     if most < n {
         return false;
     }
@@ -347,15 +354,34 @@ fn accept_in(
 
 // The bytes are a plate; if so, its rules are noted.
 pub fn accept_noting(plate: &[u8], places: &mut [u32], groups: &mut [u32]) -> bool
-    requires { ⌜ (edition1 .most ≤ length (now places)) × (now groups ≡ replicate notedCharacters 0) ⌝ }
-    ensures { λ r. ⌜ (r ≡ acceptedIn edition1 (now (plate .entry))) × NotedIf r (edition1 .width) (now (plate .entry)) (now (places .exit)) (now (groups .exit)) ⌝ }
+    requires { ⌜ (mostRules ≤ length (now places)) × (now groups ≡ replicate notedCharacters 0) ⌝ }
+    ensures { λ r. ⌜ (r ≡ accepted (now (plate .entry))) × NotedIf r (countWidth (now (plate .entry))) (now (plate .entry)) (now (places .exit)) (now (groups .exit)) ⌝ }
 {
-    accept_in(plate, EDITION, COUNT_BITS, MOST_RULES, places, groups)
+    if bits(plate, 0, 8) == EDITION_2 {
+        return accept_in(
+            plate,
+            EDITION_2,
+            COUNT_BITS_2,
+            MOST_RULES_1 + 1,
+            MOST_RULES,
+            places,
+            groups,
+        );
+    }
+    accept_in(
+        plate,
+        EDITION_1,
+        COUNT_BITS_1,
+        0,
+        MOST_RULES_1,
+        places,
+        groups,
+    )
 }
 
 // The bytes are a plate.
 pub fn accept(plate: &[u8]) -> bool
-    ensures { λ r. ⌜ r ≡ acceptedIn edition1 (now (plate .entry)) ⌝ }
+    ensures { λ r. ⌜ r ≡ accepted (now (plate .entry)) ⌝ }
 {
     let mut places = [0u32; MOST_RULES];
     let mut groups = [0u32; NOTED];

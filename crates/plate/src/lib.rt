@@ -3,17 +3,24 @@ pub mod bits; // bits.rt: the number that bits at a place write
 mod window; // window.rt: sixty-four bits at once
 mod plain; // plain.rt: plain rules, by the shape of their bits
 pub mod reader; // reader.rt: the bit reader
+pub mod edition; // edition.rt: what a first byte tells, and what a number of rules asks for
 pub mod pattern; // pattern.rt: a pattern's characters
 pub mod note; // note.rt: what is noted of the rules of a plate while it is accepted
 pub mod accept; // accept.rt: which bytes are a plate
 pub mod read; // read.rt: what an accepted plate says, part by part
 
-// An edition: its number, the width of its rule count in bits, and the most rules.
-pub const EDITION: u32 = 1;
+// An edition: its number, the width of its rule count in bits, and the most rules. Edition 2 has more than edition 1 can have.
+pub const EDITION_1: u32 = 1;
 
-pub const COUNT_BITS: usize = 10;
+pub const COUNT_BITS_1: usize = 10;
 
-pub const MOST_RULES: usize = 512;
+pub const MOST_RULES_1: usize = 512;
+
+pub const EDITION_2: u32 = 2;
+
+pub const COUNT_BITS_2: usize = 11;
+
+pub const MOST_RULES: usize = 1500;
 
 // "pattern 1 to 16 bytes, 1 to 8 alternatives, 0 to 6 digits, [..] 128 foldings"
 pub const MOST_BYTES: usize = 16;

@@ -4,10 +4,9 @@ ghost use mathlib.Core.Path.{_≡_};
 ghost use mathlib.Core.Bool.{true};
 ghost use Prim.Native.Nat.{_+_, _*_, _≤_};
 ghost use lib.ListN.{length, set};
-ghost use Rattle.plate.specs.Plate.{edition1};
 ghost use Rattle.plate.specs.Most.{mostRules};
-ghost use Rattle.plate.specs.Read.{plateAt, acceptedIn, ruleCount, rulesPlace};
-ghost use Rattle.plate.specs.Noted.{notedCharacters, half, GroupIs, Parted, Placed, Noted, Begun};
+ghost use Rattle.plate.specs.Read.{accepted, plateIn};
+ghost use Rattle.plate.specs.Noted.{notedCharacters, half, GroupIs, Parted, AllPlaced, Noted, Begun};
 use super::Group;
 use super::NOTED;
 use super::read;
@@ -41,8 +40,8 @@ pub(crate) fn next_group(groups: &mut [u32], code: u32, begun: usize, c: u32, i:
 
 // How many of n rules begin with a character below c: those in front, since rules stand by first character.
 fn rules_below(plate: &[u8], places: &[u32], n: usize, c: usize) -> usize
-    requires { ⌜ (acceptedIn edition1 (now plate) ≡ true) × Placed (now plate) (rulesPlace (edition1 .width) (now plate)) n (now places) × (n ≡ ruleCount (edition1 .width) (now plate)) ⌝ }
-    ensures { λ r. ⌜ Parted (plateAt (edition1 .width) (now (plate .entry)) .rules) c r ⌝ }
+    requires { ⌜ (accepted (now plate) ≡ true) × AllPlaced (now plate) (now places) × (n ≡ length (plateIn (now plate) .rules)) ⌝ }
+    ensures { λ r. ⌜ Parted (plateIn (now (plate .entry)) .rules) c r ⌝ }
 {
     let mut low: usize = 0;
     let mut high = n;
@@ -61,8 +60,8 @@ fn rules_below(plate: &[u8], places: &[u32], n: usize, c: usize) -> usize
 
 // A character's group: "the rules whose pattern begins with it".
 pub fn group_of(plate: &[u8], places: &[u32], groups: &[u32], c: u32) -> Group
-    requires { ⌜ (acceptedIn edition1 (now plate) ≡ true) × Noted (edition1 .width) (now plate) (now places) (now groups) ⌝ }
-    ensures { λ r. ⌜ GroupIs (plateAt (edition1 .width) (now (plate .entry)) .rules) c (r .first) (r .behind) ⌝ }
+    requires { ⌜ (accepted (now plate) ≡ true) × Noted (now plate) (now places) (now groups) ⌝ }
+    ensures { λ r. ⌜ GroupIs (plateIn (now (plate .entry)) .rules) c (r .first) (r .behind) ⌝ }
 {
     let code = c as usize;
     if code < NOTED {

@@ -5,13 +5,12 @@ ghost use mathlib.Core.Logic.{_⊎_};
 ghost use Prim.Native.Nat.{_+_, _≤_, _<_};
 ghost use lib.ListN.{length, take};
 ghost use Rattle.chars.specs.Digits.{isAlternative};
-ghost use Rattle.plate.specs.Plate.{mostBytes, edition1};
+ghost use Rattle.plate.specs.Plate.{mostBytes};
 ghost use Rattle.plate.specs.Most.{ruleMost, farthest};
-ghost use Rattle.plate.specs.Read.{alternativeAt, fieldEnd, patternAt, ruleAt, foldBy, ruleCount, rulesPlace, plateAt, acceptedIn};
+ghost use Rattle.plate.specs.Read.{alternativeAt, fieldEnd, patternAt, ruleAt, foldBy, rulesPlace, countWidth, accepted, plateIn};
 ghost use Rattle.plate.specs.Stands.{Here, Stands, Mark, LetterIs, fieldOf, fieldPlace, heldAlternative, heldField};
 use super::Alternative;
 use super::CHARACTER_BITS;
-use super::COUNT_BITS;
 use super::FOLDING_BITS;
 use super::FOLDINGS;
 use super::Field;
@@ -21,29 +20,30 @@ use super::MOST_ALTERNATIVES;
 use super::MOST_DIGITS;
 use super::bits::bits;
 use super::bits::size;
+use super::edition::width_of;
 use super::pattern;
 
-// The places in the head: 8 bits edition, the rule count, 8 bits folding count, the folding flag.
+// The places in the head, but for the width of the rule count: 8 bits edition, the rule count, 8 bits folding count, the folding flag.
 const RULE_COUNT: usize = 8;
 
-const FOLDING_COUNT: usize = RULE_COUNT + COUNT_BITS;
+const FOLDING_COUNT: usize = RULE_COUNT;
 
 const FLAG: usize = FOLDING_COUNT + 8;
 
 // The folding flag.
 pub fn flag(plate: &[u8]) -> bool
-    ensures { λ r. ⌜ r ≡ plateAt (edition1 .width) (now (plate .entry)) .flag ⌝ }
+    ensures { λ r. ⌜ r ≡ plateIn (now (plate .entry)) .flag ⌝ }
 {
-    bits(plate, FLAG, 1) == 1
+    bits(plate, FLAG + width_of(plate), 1) == 1
 }
 
 // What a character is folded to. Keys rise, so the first above it ends the search.
 pub fn fold(plate: &[u8], c: u32) -> u32
-    requires { ⌜ acceptedIn edition1 (now plate) ≡ true ⌝ }
-    ensures { λ r. ⌜ r ≡ foldBy (plateAt (edition1 .width) (now (plate .entry)) .foldings) c ⌝ }
+    requires { ⌜ accepted (now plate) ≡ true ⌝ }
+    ensures { λ r. ⌜ r ≡ foldBy (plateIn (now (plate .entry)) .foldings) c ⌝ }
 {
     let mut at: usize = FOLDINGS;
-    let mut left = size(plate, FOLDING_COUNT, 8);
+    let mut left = size(plate, FOLDING_COUNT + width_of(plate), 8);
     while 0 < left {
         let key = bits(plate, at, CHARACTER_BITS);
         if c < key {
@@ -60,10 +60,10 @@ pub fn fold(plate: &[u8], c: u32) -> u32
 
 // How many rules there are; they stand one behind the other from the first place on.
 pub fn rule_count(plate: &[u8]) -> usize
-    requires { ⌜ acceptedIn edition1 (now plate) ≡ true ⌝ }
-    ensures { λ r. ⌜ (r ≡ ruleCount (edition1 .width) (now (plate .entry))) × Stands (now (plate .entry)) r (rulesPlace (edition1 .width) (now (plate .entry))) ⌝ }
+    requires { ⌜ accepted (now plate) ≡ true ⌝ }
+    ensures { λ r. ⌜ (r ≡ length (plateIn (now (plate .entry)) .rules)) × Stands (now (plate .entry)) r (rulesPlace (countWidth (now (plate .entry))) (now (plate .entry))) ⌝ }
 {
-    size(plate, RULE_COUNT, COUNT_BITS)
+    size(plate, RULE_COUNT, width_of(plate))
 }
 
 // The place behind the field at a place. Its count and the digit count of its first alternative are read at once, and most fields have no other.

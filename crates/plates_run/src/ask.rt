@@ -16,7 +16,7 @@ use trial::say::sum;
 use trial::say::word;
 use trial::say::yes_or_no;
 
-// One byte more than the largest plate has.
+// One byte more than the largest plate of edition 1 has; no text's plate is longer.
 pub(crate) fn plate_buffer() -> [u8; 51429]
     ensures { λ r. ⌜ 51429 ≡ length r ⌝ }
 {

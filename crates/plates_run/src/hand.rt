@@ -21,7 +21,7 @@ fn put_bit(plate: &mut [u8], at: usize, bit: usize) {
 
 // A number in so many bits, over cleared ones; the place behind it.
 fn put(plate: &mut [u8], at: usize, width: usize, value: usize) -> usize
-    requires { ⌜ (at ≤ 1000000) × (width ≤ 64) ⌝ }
+    requires { ⌜ (at ≤ 2000000) × (width ≤ 64) ⌝ }
     ensures { λ r. ⌜ r ≡ at + width ⌝ }
 {
     for k in 0..width {
@@ -42,16 +42,16 @@ fn put_foldings(plate: &mut [u8], n: usize) -> usize
     end
 }
 
-// A pattern of 16 bytes, two letters that rise with the number and fourteen times `n`: 5 bits and 128.
+// A pattern of 16 bytes, two that rise with the number, from `A` and from `a` on, and fourteen times `n`: 5 bits and 128.
 fn put_pattern(plate: &mut [u8], at: usize, k: usize) -> usize
-    requires { ⌜ (at ≤ 800000) × (k ≤ 600) ⌝ }
+    requires { ⌜ (at ≤ 1200000) × (k ≤ 1500) ⌝ }
     ensures { λ r. ⌜ r ≡ at + 133 ⌝ }
 {
     let seven = put(
         plate,
         at,
         21,
-        0b10000_01100001_01100001 + k / 26 * 256 + k % 26,
+        0b10000_01000001_01100001 + k / 26 * 256 + k % 26,
     );
     let more = put(plate, seven, 56, 0x6E6E6E6E6E6E6E);
     put(plate, more, 56, 0x6E6E6E6E6E6E6E)
@@ -59,7 +59,7 @@ fn put_pattern(plate: &mut [u8], at: usize, k: usize) -> usize
 
 // Eight alternatives of six digits: 3 bits and 24 bits each.
 fn put_field(plate: &mut [u8], at: usize) -> usize
-    requires { ⌜ at ≤ 900000 ⌝ }
+    requires { ⌜ at ≤ 1300000 ⌝ }
     ensures { λ r. ⌜ r ≡ at + 220 ⌝ }
 {
     let mut end = put(plate, at, 4, 8);
@@ -70,7 +70,7 @@ fn put_field(plate: &mut [u8], at: usize) -> usize
 }
 
 fn put_rule(plate: &mut [u8], at: usize, k: usize) -> usize
-    requires { ⌜ (at ≤ 800000) × (k ≤ 600) ⌝ }
+    requires { ⌜ (at ≤ 1200000) × (k ≤ 1500) ⌝ }
     ensures { λ r. ⌜ r ≡ at + 793 ⌝ }
 {
     let start = put_pattern(plate, at, k);
@@ -80,7 +80,7 @@ fn put_rule(plate: &mut [u8], at: usize, k: usize) -> usize
 }
 
 fn put_rules(plate: &mut [u8], at: usize, n: usize) -> usize
-    requires { ⌜ (at ≤ 10000) × (n ≤ 600) ⌝ }
+    requires { ⌜ (at ≤ 10000) × (n ≤ 1500) ⌝ }
     ensures { λ r. ⌜ r ≡ at + 793 * n ⌝ }
 {
     let mut end = at;
@@ -101,11 +101,13 @@ pub(crate) fn many_foldings(n: usize)
     show(b" foldings", &plate[0..bytes]);
 }
 
-// The bits of the largest plate: 512 rules, 128 foldings.
-fn put_largest(plate: &mut [u8]) -> usize {
-    put(plate, 0, 32, 0x01802020);
-    let rules = put_foldings(plate, 128);
-    put_rules(plate, rules, 512)
+// The bits of the largest plate of an edition: its head, 128 foldings, so many rules.
+fn put_largest(plate: &mut [u8], head: usize, rules: usize) -> usize
+    requires { ⌜ rules ≤ 1500 ⌝ }
+{
+    put(plate, 0, 32, head);
+    let end = put_foldings(plate, 128);
+    put_rules(plate, end, rules)
 }
 
 fn show_first(plate: &[u8], n: usize)
@@ -125,9 +127,25 @@ fn show_around(plate: &[u8], n: usize)
     show_first(plate, n + 1);
 }
 
-pub(crate) fn largest() {
+// 512 rules in edition 1.
+pub(crate) fn largest_1() {
     let mut plate = plate_buffer();
-    number(put_largest(&mut plate));
+    number(put_largest(&mut plate, 0x01802020, 512));
     word(b" bits\n");
     show_around(&plate, 51428);
+}
+
+// One byte more than the largest plate has.
+fn largest_buffer() -> [u8; 149365]
+    ensures { λ r. ⌜ 149365 ≡ length r ⌝ }
+{
+    [0; 149365]
+}
+
+// 1,500 rules in edition 2, whose count has 11 bits.
+pub(crate) fn largest_2() {
+    let mut plate = largest_buffer();
+    number(put_largest(&mut plate, 0x02BB9010, 1500));
+    word(b" bits\n");
+    show_around(&plate, 149364);
 }

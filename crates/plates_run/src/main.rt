@@ -14,7 +14,8 @@ mod hand; // hand.rt: plates written bit by bit
 fn main() {
     cases::run(b"items.txt");
     cases::run(b"worked.txt");
-    hand::largest();
+    hand::largest_1();
+    hand::largest_2();
     cases::run(b"texts.txt");
     cases::run(b"plates.txt");
     hand::many_foldings(128);

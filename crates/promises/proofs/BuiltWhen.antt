@@ -17,7 +17,6 @@ use Rattle.rule_text.specs.Items.{Saying, Item, items}
 use Rattle.rule_text.specs.Items.Saying.{RuleItem, FoldingItem, LineEndItem, CommentItem, UnknownItem}
 use Rattle.rule_text.specs.Fields.{bar, alternatives}
 use Rattle.chars.specs.Digits.{isAlternative}
-use Rattle.plate.specs.Plate.{edition1}
 use Rattle.plate.specs.Written.{plateBytes}
 use Rattle.book.specs.Book.{Book, blank, putFolding, foldingOf, when, firstFault, fieldFault}
 use Rattle.builder.specs.Build.{enter, fault, unless, verdict, Built, refusal, answered, delivered, nonzero, buildAnswer}
@@ -50,13 +49,13 @@ field-row f rest P below =
 
 module _ (rules : ℕ) where
   abbrev Eight : ℕ → Type 0
-  Eight n = Check n 8 (512 ≤ rules) (n ≡ 0)
+  Eight n = Check n 8 (1500 ≤ rules) (n ≡ 0)
 
 rule-number : (p s v o : List ℕ) (before : List Saying) (n : ℕ) → n ≡ length (rulesOf before)
     → ItemNumber before (RuleItem p s v o) (firstFault (when (eqb (length p) 0) 4 ∷ when (ltb 16 (length p)) 5 ∷ fieldFault (alternatives s) ∷ fieldFault
-    (alternatives v) ∷ fieldFault (alternatives o) ∷ when (leb 512 n) 8 ∷ []))
+    (alternatives v) ∷ fieldFault (alternatives o) ∷ when (leb 1500 n) 8 ∷ []))
 rule-number p s v o before n e =
-    let last : List ℕ = when (leb 512 n) 8 ∷ [] in
+    let last : List ℕ = when (leb 1500 n) 8 ∷ [] in
     let third : List ℕ = fieldFault (alternatives o) ∷ last in
     let second : List ℕ = fieldFault (alternatives v) ∷ third in
     let first : List ℕ = fieldFault (alternatives s) ∷ second in
@@ -70,7 +69,7 @@ rule-number p s v o before n e =
     (field-row s second Second
     (field-row v third Third
     (field-row o last End
-    (row (leb 512 n) 7 (512 ≤ length (rulesOf before)) (λ h. let k = leb-true 512 n h in omega arith) (λ h q. let k = leb-false 512 n h in omega arith) [] (λ m. m ≡ 0) refl)))))
+    (row (leb 1500 n) 7 (1500 ≤ length (rulesOf before)) (λ h. let k = leb-true 1500 n h in omega arith) (λ h q. let k = leb-false 1500 n h in omega arith) [] (λ m. m ≡ 0) refl)))))
   where
     empty : (l : List ℕ) → length l ≡ 0 → l ≡ []
     empty [] h = refl
@@ -118,7 +117,7 @@ still-few UnknownItem b e h = h
 
 -- The plate of what is said.
 abbrev bytesSaid : Bool → List Saying → List ℕ
-bytesSaid flag is = plateBytes edition1 (record { flag = flag; foldings = putFoldings [] (foldingsOf is); rules = putRules [] (rulesOf is) })
+bytesSaid flag is = plateBytes (record { flag = flag; foldings = putFoldings [] (foldingsOf is); rules = putRules [] (rulesOf is) })
 
 -- what a number and a line meet behind the items
 abbrev Met : List ℕ → Bool → List ℕ → List Saying → List Saying → List Item → Built → Type 0
@@ -140,10 +139,10 @@ items-met : (text : List ℕ) (flag : Bool) (lent : List ℕ) (all before : List
 unfolding verdict
 items-met text flag lent all before b [] e h few =
     let same : before ≡ all = sym (append-nil before) ∙ e in
-    let d = delivered-number (plateBytes edition1 (record { flag = flag; foldings = b .foldings; rules = b .rules })) lent in
-    let said : plateBytes edition1 (record { flag = flag; foldings = b .foldings; rules = b .rules }) ≡ bytesSaid flag all =
-    (λ j. plateBytes edition1 (record { flag = flag; foldings = h .foldings j; rules = h .rules j })) ∙ ap (bytesSaid flag) same in (
-      subst (λ (s : List ℕ). let n = delivered (plateBytes edition1 (record { flag = flag; foldings = b .foldings; rules = b .rules })) lent .number in Check n 9 (length lent < length s) (n ≡ 0))
+    let d = delivered-number (plateBytes (record { flag = flag; foldings = b .foldings; rules = b .rules })) lent in
+    let said : plateBytes (record { flag = flag; foldings = b .foldings; rules = b .rules }) ≡ bytesSaid flag all =
+    (λ j. plateBytes (record { flag = flag; foldings = h .foldings j; rules = h .rules j })) ∙ ap (bytesSaid flag) same in (
+      subst (λ (s : List ℕ). let n = delivered (plateBytes (record { flag = flag; foldings = b .foldings; rules = b .rules })) lent .number in Check n 9 (length lent < length s) (n ≡ 0))
           said (d .0),
       (λ r. d .1),
     )

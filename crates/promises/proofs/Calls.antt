@@ -8,7 +8,7 @@ use native.Mathlib.Omega.{arith}
 use lib.ListN.{length, take, drop, getD, length-append}
 use lib.Seq.{take-append-seam, length-take-le}
 use Rattle.plate.specs.Bits.{bit, numberAt}
-use Rattle.plate.specs.Plate.{Plate, edition1}
+use Rattle.plate.specs.Plate.{Plate}
 use Rattle.plate.specs.Written.{plateBytes}
 use Rattle.plate.specs.Read.{readPlate}
 use Rattle.plate.proofs.Packed.{Bytes}
@@ -94,7 +94,7 @@ module _ (text : List ℕ) (flag : Bool) (lent : List ℕ) (bytes : Bytes text) 
       go zero e =
           let g = b .1 e in
           let k = g .1 in
-          let bytes = plateBytes edition1 (plateSaid flag text) in
+          let bytes = plateBytes (plateSaid flag text) in
           let l = ap length (g .3) ∙ length-append bytes (drop (length bytes) lent) in omega arith
       go (suc n) e = let k = b .0 .2 (λ z. omega arith) .0 in omega arith
 
@@ -111,7 +111,7 @@ module _ (text : List ℕ) (flag : Bool) (lent : List ℕ) (bytes : Bytes text) 
       go : (n : ℕ) → r .number ≡ n → IsPlate (plateSaid flag text) (take (r .length) out)
       go zero e =
           let g = b .1 e in
-          (g .0, ap₂ take (g .1) (g .3) ∙ take-append-seam (plateBytes edition1 (plateSaid flag text)) (drop (length (plateBytes edition1 (plateSaid flag text))) lent))
+          (g .0, ap₂ take (g .1) (g .3) ∙ take-append-seam (plateBytes (plateSaid flag text)) (drop (length (plateBytes (plateSaid flag text))) lent))
       go (suc n) e =
           let k = b .0 .2 (λ z. omega arith) .0 in absurd (no-plate p (w .0, ap (λ (m : ℕ). take m out) (sym k) ∙ w .1))
 

@@ -17,7 +17,7 @@ use Rattle.chars.specs.Letters.{white}
 use Rattle.plate.specs.Plate.{Rule, Plate}
 use Rattle.plate.specs.Read.{readPlate}
 use Rattle.plate.proofs.Packed.{Bytes}
-use Rattle.plate.proofs.Round.{edition1-reads, edition1-exact}
+use Rattle.plate.proofs.Round.{plate-reads, plate-exact}
 use Rattle.branches.specs.Branches.{Branch, Use, start, step, run, over, codes}
 use Rattle.branches.specs.Choice.{firstOnly}
 use Rattle.coder.specs.Name.{allowed, prepared}
@@ -43,10 +43,10 @@ every-false t (x ∷ l) e = go (t x) refl e (λ h. every-false t l h)
 -- ---- plates
 
 pub plate-read : (bytes : List ℕ) (p : Plate) → IsPlate p bytes → readPlate bytes ≡ some p
-plate-read bytes p w = subst (λ (s : List ℕ). readPlate s ≡ some p) (sym (w .1)) (edition1-reads p (w .0))
+plate-read bytes p w = subst (λ (s : List ℕ). readPlate s ≡ some p) (sym (w .1)) (plate-reads p (w .0))
 
 pub read-plate : (bytes : List ℕ) (p : Plate) → Bytes bytes → readPlate bytes ≡ some p → IsPlate p bytes
-read-plate bytes p b e = let x = edition1-exact bytes p b e in (x .1, x .0)
+read-plate bytes p b e = let x = plate-exact bytes p b e in (x .1, x .0)
 
 -- ---- names
 

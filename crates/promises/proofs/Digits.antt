@@ -15,7 +15,8 @@ use Rattle.laws.proofs.Cuts.{every-take}
 use Rattle.laws.proofs.Many.{every-append}
 use Rattle.laws.proofs.Members.{in-every}
 use Rattle.chars.specs.Digits.{digit, isAlternative}
-use Rattle.plate.specs.Plate.{Rule, Plate, edition1, goodPattern, goodField, goodRule, goodRules, goodFoldings, goodPlate, ordered}
+use Rattle.plate.specs.Plate.{Rule, Plate, goodPattern, goodField, goodRule, goodPlate}
+use Rattle.plate.proofs.Round.{good-is}
 use Rattle.branches.specs.Branches.{Branch, Use, endsWith, extend, code, codes}
 use Rattle.branches.specs.Choice.{Chosen, follow, yielded}
 use Rattle.branches.proofs.Choice.{listed-chosen}
@@ -82,12 +83,8 @@ walk-usable rs h before zero (c ∷ cs) =
     every-append usable (p .uses) (walk rs (p .before) (p .skip) cs)
     ∙ both-true (passed-usable before c cs (group rs c) (every-keep goodRule (λ r. startsWith c (letters r)) rs h)) (walk-usable rs h (p .before) (p .skip) cs)
 
-uses-usable : (p : Plate) (name : List ℕ) → goodPlate edition1 p ≡ true → every usable (usesIn p name) ≡ true
-uses-usable p name g =
-    let a = and-true (goodRules 512 (p .rules)) (goodFoldings (p .foldings)) g in
-    let b = and-true (leb (length (p .rules)) 512) (every goodRule (p .rules) && ordered (p .rules)) (a .0) in
-    let c = and-true (every goodRule (p .rules)) (ordered (p .rules)) (b .1) in
-    walk-usable (p .rules) (c .0) none 0 (prepared p name)
+uses-usable : (p : Plate) (name : List ℕ) → goodPlate p ≡ true → every usable (usesIn p name) ≡ true
+uses-usable p name g = walk-usable (p .rules) (good-is p g .rules) none 0 (prepared p name)
 
 -- ---- a branch
 
@@ -125,7 +122,7 @@ filled-up b f =
 
 -- ---- the codes
 
-module _ (p : Plate) (name : List ℕ) (good : goodPlate edition1 p ≡ true) where
+module _ (p : Plate) (name : List ℕ) (good : goodPlate p ≡ true) where
   pub yielded-six : (choice : List (List ℕ)) → Chosen (usesIn p name) choice → SixDigits (yielded (usesIn p name) choice)
   yielded-six choice c =
       filled-up (follow (usesIn p name) choice (record { digits = []; last = [] }))

@@ -15,7 +15,7 @@ use Rattle.laws.proofs.Tests.{by-test}
 use Rattle.laws.proofs.Parts.{by-lt}
 use Rattle.chars.specs.Utf8.{isText}
 use Rattle.rule_text.specs.Items.{Saying, Item, items}
-use Rattle.plate.specs.Plate.{Plate, edition1, goodPlate}
+use Rattle.plate.specs.Plate.{Plate, goodPlate}
 use Rattle.plate.specs.Written.{plateBytes}
 use Rattle.plate.proofs.Packed.{Bytes}
 use Rattle.book.specs.Book.{Book, blank, plateOf}
@@ -90,12 +90,12 @@ build-gives text flag lent bytes n =
     let b = x .0 in
     let h = fine-holds [] blank (items text) b (record { rules = refl; foldings = refl }) (x .1) in
     let said : plateOf flag b ≡ plateSaid flag text = λ i. record { flag = flag; foldings = h .foldings i; rules = h .rules i } in
-    let made : a ≡ delivered (plateBytes edition1 (plateOf flag b)) lent = j .1 ∙ ap (answered text flag lent) (x .1) in
-    let made′ : a ≡ delivered (plateBytes edition1 (plateSaid flag text)) lent = made ∙ ap (λ (p : Plate). delivered (plateBytes edition1 p) lent) said in
-    let f = fitting (plateBytes edition1 (plateSaid flag text)) lent (ap (λ (c : Built). c .number) (sym made′) ∙ n) in
-    let is : a ≡ whole (plateBytes edition1 (plateSaid flag text)) lent = made′ ∙ f .0 in
-    let long : a .length ≡ length (plateBytes edition1 (plateSaid flag text)) = ap (λ (c : Built). c .length) is in (
-      ap (goodPlate edition1) (sym said) ∙ build-good text bytes (j .0) b (x .1) flag,
+    let made : a ≡ delivered (plateBytes (plateOf flag b)) lent = j .1 ∙ ap (answered text flag lent) (x .1) in
+    let made′ : a ≡ delivered (plateBytes (plateSaid flag text)) lent = made ∙ ap (λ (p : Plate). delivered (plateBytes p) lent) said in
+    let f = fitting (plateBytes (plateSaid flag text)) lent (ap (λ (c : Built). c .number) (sym made′) ∙ n) in
+    let is : a ≡ whole (plateBytes (plateSaid flag text)) lent = made′ ∙ f .0 in
+    let long : a .length ≡ length (plateBytes (plateSaid flag text)) = ap (λ (c : Built). c .length) is in (
+      ap goodPlate (sym said) ∙ build-good text bytes (j .0) b (x .1) flag,
       long,
       subst (λ (m : ℕ). m ≤ length lent) (sym long) (f .1),
       ap (λ (c : Built). c .buffer) is,

@@ -1,4 +1,5 @@
--- The largest plate: no plate that obeys the table is longer than 51,428 bytes, and one is as long: 512 rules and 128 foldings, every field full.
+-- The largest plate: no plate of n rules that obeys the table is longer than so many bytes, and one is as long: 128 foldings, every field full. Of 512 rules
+-- it takes 51,428 bytes, of 1,500 it takes 149,364.
 -- Assumes nothing.
 use Prim.Native.Nat.{ℕ, zero, suc, _+_, _-_, _*_, _/_, _≤_}
 use mathlib.Core.Path.{_≡_, refl, sym, ap, subst, _∙_}
@@ -8,17 +9,18 @@ use native.Mathlib.Nat.{mul-suc, mul-le-mul-left}
 use native.Mathlib.Omega.{arith}
 use borrow.Author.Tests.{leb-true}
 use lib.Dec.{leb}
-use lib.ListN.{length, replicate, length-append}
+use lib.ListN.{length, replicate, length-append, length-replicate}
 use Rattle.laws.specs.Lists.{every, cat, between}
-use Rattle.laws.proofs.Tests.{and-true, between-true}
+use Rattle.laws.proofs.Tests.{and-true, both-true, between-true}
 use Rattle.chars.specs.Utf8.{isText, textFrom}
 use Rattle.chars.specs.Digits.{digit, isAlternative}
 use Rattle.plate.specs.Bits.{bitsOf}
-use Rattle.plate.specs.Plate.{Folding, Rule, Plate, edition1, mostFoldings, nonzeroByte, goodPattern, goodField, goodRule, goodFolding, goodFoldings, goodRules, goodPlate, rising, ordered}
-use Rattle.plate.specs.Written.{counted, digitBits, alternativeBits, fieldBits, ruleBits, foldingBits, flagBit, headBits, plateBits, plateBytes}
+use Rattle.plate.specs.Plate.{Folding, Rule, Plate, mostFoldings, nonzeroByte, goodPattern, goodField, goodRule, goodFolding, goodPlate, rising, mayPrecede, ordered}
+use Rattle.plate.specs.Written.{counted, digitBits, alternativeBits, fieldBits, ruleBits, foldingBits, headOf, plateBytes}
 use Rattle.plate.proofs.Packed.{length-bitsOf}
+use Rattle.plate.proofs.Round.{head-length, good-is, is-good}
 use Rattle.book.proofs.Inks.{pack-length}
-use Rattle.promises.specs.Demands.{Largest}
+use Rattle.promises.specs.Demands.{LargestOf, Largest}
 
 -- ---- how many bits
 
@@ -80,37 +82,26 @@ folding-bits f =
     let key = length-bitsOf 21 (f .key) in
     let target = length-bitsOf 21 (f .target) in length-append (bitsOf 21 (f .key)) (bitsOf 21 (f .target)) ∙ omega arith
 
-head-bits : (p : Plate) → length (headBits edition1 p) ≡ 32
-head-bits p =
-    let rules = bitsOf 10 (length (p .rules)) in
-    let foldings = bitsOf 8 (length (p .foldings)) in
-    let flag = bitsOf 1 (flagBit (p .flag)) in
-    let a = length-bitsOf 10 (length (p .rules)) in
-    let b = length-bitsOf 8 (length (p .foldings)) in
-    let c = length-bitsOf 1 (flagBit (p .flag)) in
-    let one = length-append rules (foldings ++ (flag ++ bitsOf 5 0)) in
-    let two = length-append foldings (flag ++ bitsOf 5 0) in
-    let three = length-append flag (bitsOf 5 0) in
-    length-append (bitsOf 8 1) (rules ++ (foldings ++ (flag ++ bitsOf 5 0))) ∙ omega arith
+-- the bits of a plate: its head takes 32
+abbrev bits-of : Plate → List ℕ
+bits-of p = headOf (length (p .rules)) (length (p .foldings)) (p .flag) ++ (cat foldingBits (p .foldings) ++ cat ruleBits (p .rules))
 
-plate-bits : (p : Plate) → length (plateBits edition1 p) ≡ 32 + (length (cat foldingBits (p .foldings)) + length (cat ruleBits (p .rules)))
+plate-bits : (p : Plate) → length (bits-of p) ≡ 32 + (length (cat foldingBits (p .foldings)) + length (cat ruleBits (p .rules)))
 plate-bits p =
-    let head = head-bits p in
+    let head = head-length (length (p .rules)) (length (p .foldings)) (p .flag) in
     let two = length-append (cat foldingBits (p .foldings)) (cat ruleBits (p .rules)) in
-    length-append (headBits edition1 p) (cat foldingBits (p .foldings) ++ cat ruleBits (p .rules)) ∙ omega arith
+    length-append (headOf (length (p .rules)) (length (p .foldings)) (p .flag)) (cat foldingBits (p .foldings) ++ cat ruleBits (p .rules)) ∙ omega arith
 
-plate-most : (p : Plate) → goodPlate edition1 p ≡ true → length (plateBytes edition1 p) ≤ 51428
-plate-most p h =
-    let a = and-true (goodRules 512 (p .rules)) (goodFoldings (p .foldings)) h in
-    let b = and-true (leb (length (p .rules)) 512) (every goodRule (p .rules) && ordered (p .rules)) (a .0) in
-    let c = and-true (every goodRule (p .rules)) (ordered (p .rules)) (b .1) in
-    let d = and-true (leb (length (p .foldings)) mostFoldings) (every goodFolding (p .foldings) && rising (p .foldings)) (a .1) in
-    let fewRules = leb-true (length (p .rules)) 512 (b .0) in
+-- n rules of 793 bits, 128 foldings of 42
+plate-most : (p : Plate) (n : ℕ) → goodPlate p ≡ true → length (p .rules) ≤ n → length (plateBytes p) ≤ (32 + 42 * 128 + 793 * n + 7) / 8
+plate-most p n h fewRules =
+    let g = good-is p h in
+    let d = and-true (leb (length (p .foldings)) mostFoldings) (every goodFolding (p .foldings) && rising (p .foldings)) (g .foldings) in
     let fewFoldings = leb-true (length (p .foldings)) 128 (d .0) in
-    let rules = cat-most ruleBits goodRule 793 rule-most (p .rules) (c .0) in
+    let rules = cat-most ruleBits goodRule 793 rule-most (p .rules) (g .rules) in
     let foldings = cat-most foldingBits (λ f. true) 42 (λ f e. let n = folding-bits f in omega arith) (p .foldings) (every-any (p .foldings)) in
     let bits = plate-bits p in
-    let size = pack-length (plateBits edition1 p) in omega arith
+    let size = pack-length (bits-of p) in omega arith
 
 -- ---- one that is as long
 
@@ -123,8 +114,8 @@ abbrev risen : ℕ → ℕ → List Folding
 risen zero k = []
 risen (suc n) k = record { key = k; target = 97 } ∷ risen n (suc k)
 
-abbrev whole : Plate
-whole = record { flag = true; foldings = risen 128 1; rules = replicate 512 full }
+abbrev whole : ℕ → Plate
+whole n = record { flag = true; foldings = risen 128 1; rules = replicate n full }
 
 many-bits : {A : Type 0} (f : A → List ℕ) (m n : ℕ) (x : A) → length (f x) ≡ m → length (cat f (replicate n x)) ≡ m * n
 many-bits f m zero x e = omega arith
@@ -139,19 +130,36 @@ risen-bits (suc n) k =
     let one = folding-bits f in
     let rest = risen-bits n (suc k) in length-append (foldingBits f) (cat foldingBits (risen n (suc k))) ∙ omega arith
 
-whole-good : goodPlate edition1 whole ≡ true
+full-good : (goodRule full ≡ true) × (mayPrecede full full ≡ true)
 unfolding textFrom
-whole-good = refl
+full-good = (refl, refl)
 
-whole-size : length (plateBytes edition1 whole) ≡ 51428
-whole-size =
-    let rules = many-bits ruleBits 793 512 full refl in
+all-full : (n : ℕ) → every goodRule (replicate n full) ≡ true
+all-full zero = refl
+all-full (suc n) = both-true (full-good .0) (all-full n)
+
+all-ordered : (n : ℕ) → ordered (replicate n full) ≡ true
+all-ordered zero = refl
+all-ordered (suc zero) = refl
+all-ordered (suc (suc n)) = both-true (full-good .1) (all-ordered (suc n))
+
+whole-good : (n : ℕ) → n ≤ 1500 → goodPlate (whole n) ≡ true
+whole-good n h =
+    let long = length-replicate n full in
+    is-good (whole n) (record { few = omega arith; rules = all-full n; order = all-ordered n; foldings = refl })
+
+whole-size : (n : ℕ) → length (plateBytes (whole n)) ≡ (32 + 42 * 128 + 793 * n + 7) / 8
+whole-size n =
+    let rules = many-bits ruleBits 793 n full refl in
     let foldings = risen-bits 128 1 in
-    let bits : length (plateBits edition1 whole) ≡ 411424 = plate-bits whole ∙ omega arith in
-    pack-length (plateBits edition1 whole) ∙ ap (λ (n : ℕ). (n + 7) / 8) bits
+    let bits : length (bits-of (whole n)) ≡ 32 + 42 * 128 + 793 * n = plate-bits (whole n) ∙ omega arith in
+    pack-length (bits-of (whole n)) ∙ ap (λ (m : ℕ). (m + 7) / 8) bits
+
+largest-of : (n : ℕ) → n ≤ 1500 → LargestOf n ((32 + 42 * 128 + 793 * n + 7) / 8)
+largest-of n h = (
+  (λ bytes p w few. subst (λ (s : List ℕ). length s ≤ (32 + 42 * 128 + 793 * n + 7) / 8) (sym (w .1)) (plate-most p n (w .0) few)),
+  (whole n, plateBytes (whole n), (whole-good n h, refl), length-replicate n full, whole-size n),
+)
 
 pub largest : Largest
-largest = (
-  (λ bytes p w. subst (λ (s : List ℕ). length s ≤ 51428) (sym (w .1)) (plate-most p (w .0))),
-  (whole, plateBytes edition1 whole, (whole-good, refl), whole-size),
-)
+largest = (largest-of 512 (omega arith), largest-of 1500 (omega arith), λ bytes p w. good-is p (w .0) .few)

@@ -12,3 +12,4 @@ pub mod Largest
 pub mod Calls
 pub mod Once
 pub mod Placed
+pub mod Before

@@ -10,7 +10,7 @@ use Rattle.laws.specs.Lists.{every}
 use Rattle.laws.proofs.Tests.{by-test}
 use Rattle.chars.specs.Utf8.{isText}
 use Rattle.rule_text.specs.Items.{items}
-use Rattle.plate.specs.Plate.{Rule, Plate, edition1}
+use Rattle.plate.specs.Plate.{Rule, Plate}
 use Rattle.plate.specs.Written.{plateBytes}
 use Rattle.plate.specs.Read.{readPlate}
 use Rattle.plate.proofs.Packed.{Bytes}
@@ -38,7 +38,7 @@ Kept lent a = Keeps (a .number) (a .length) lent (a .buffer)
 verdict-keeps : (text : List ℕ) (flag : Bool) (lent : List ℕ) (v : Verdict) → Kept lent (answered text flag lent v)
 verdict-keeps text flag lent (Faulty n place) = λ _. (refl, refl)
 verdict-keeps text flag lent (Fine b) =
-    by-test (Kept lent) (ltb (length lent) (length (plateBytes edition1 (plateOf flag b)))) _ _ (λ e _. (refl, refl)) (λ e h. absurd (h refl))
+    by-test (Kept lent) (ltb (length lent) (length (plateBytes (plateOf flag b)))) _ _ (λ e _. (refl, refl)) (λ e h. absurd (h refl))
 
 build-keeps : (text : List ℕ) (flag : Bool) (lent : List ℕ) → Kept lent (buildAnswer text flag lent)
 unfolding buildAnswer

@@ -7,7 +7,7 @@ use mathlib.Core.List.{List, [], _∷_, _++_}
 use lib.ListN.{length, take, drop, getD}
 use Rattle.laws.specs.Lists.{In, every}
 use Rattle.chars.specs.Digits.{digit}
-use Rattle.plate.specs.Plate.{Plate, edition1, goodPlate}
+use Rattle.plate.specs.Plate.{Plate, goodPlate}
 use Rattle.plate.specs.Written.{plateBytes}
 use Rattle.builder.specs.Build.{Built}
 use Rattle.branches.specs.Branches.{codes}
@@ -46,8 +46,8 @@ EncodeRefuses plate name lent a = EncodeNumber plate name lent (a .number) (a .p
 -- What is built is the plate that the text says, one that obeys the table; the bytes behind it are as lent.
 abbrev pub BuildGives : List ℕ → Bool → List ℕ → Built → Type 0
 BuildGives text flag lent a =
-    let bytes = plateBytes edition1 (plateSaid flag text) in
-    a .number ≡ 0 → (goodPlate edition1 (plateSaid flag text) ≡ true) × (a .length ≡ length bytes) × (a .length ≤ length lent) × (a .buffer ≡ bytes ++ drop (length bytes) lent)
+    let bytes = plateBytes (plateSaid flag text) in
+    a .number ≡ 0 → (goodPlate (plateSaid flag text) ≡ true) × (a .length ≡ length bytes) × (a .length ≤ length lent) × (a .buffer ≡ bytes ++ drop (length bytes) lent)
 
 -- "code number k, from 0, is lent the buffer from byte 7k on"
 abbrev pub codeAt : Coded → ℕ → List ℕ
@@ -76,11 +76,15 @@ EncodeGives plate name lent a = a .number ≡ 0 → (p : Plate) × IsPlate p pla
 abbrev pub OnePlate : Type 0
 OnePlate = (bytes : List ℕ) (p q : Plate) → IsPlate p bytes → IsPlate q bytes → p ≡ q
 
--- 01: "The largest is 4 + 672 + 50,752 = 51,428 bytes."
+-- No plate of so many rules at most is longer than so many bytes, and one is as long.
+abbrev pub LargestOf : ℕ → ℕ → Type 0
+LargestOf rules most =
+    ((bytes : List ℕ) (p : Plate) → IsPlate p bytes → length (p .rules) ≤ rules → length bytes ≤ most)
+    × ((p : Plate) × (bytes : List ℕ) × IsPlate p bytes × (length (p .rules) ≡ rules) × (length bytes ≡ most))
+
+-- 01: "The largest is 4 + 672 + 50,752 = 51,428 bytes." 02, M-106: "The largest becomes 149,364 bytes"; and every plate is one of 1,500 rules at most.
 abbrev pub Largest : Type 0
-Largest =
-    ((bytes : List ℕ) (p : Plate) → IsPlate p bytes → length bytes ≤ 51428)
-    × ((p : Plate) × (bytes : List ℕ) × IsPlate p bytes × (length bytes ≡ 51428))
+Largest = LargestOf 512 51428 × LargestOf 1500 149364 × ((bytes : List ℕ) (p : Plate) → IsPlate p bytes → length (p .rules) ≤ 1500)
 
 -- ---- demand 3: "More never loses a match."
 

@@ -13,7 +13,7 @@ use Rattle.chars.specs.Quoted.{bytes, lines}
 use Rattle.rule_text.specs.Forms.{entry, quadruplet, folding, multilineComment, endOfLine, ending, comment, blanks, later, pairAt, lineAt, part, plain, escaped, partAt, letterAt, closing}
 use Rattle.rule_text.specs.Items.{itemsFrom}
 use Rattle.plate.specs.Bits.{bit, numberAt}
-use Rattle.plate.specs.Plate.{Rule, Folding, edition1}
+use Rattle.plate.specs.Plate.{Rule, Folding}
 use Rattle.plate.specs.Read.{foldBy}
 use Rattle.plate.specs.Written.{plateBytes}
 use Rattle.builder.specs.Build.{buildAnswer, verdict}
@@ -45,14 +45,14 @@ abbrev rule : Rule
 rule = record { pattern = bytes "a"; start = [] ∷ []; vowel = [] ∷ []; other = [] ∷ [] }
 
 abbrev ruled : ℕ → List ℕ
-ruled n = plateBytes edition1 (record { flag = true; foldings = []; rules = replicate n rule })
+ruled n = plateBytes (record { flag = true; foldings = []; rules = replicate n rule })
 
 abbrev keys : ℕ → ℕ → List Folding
 keys zero k = []
 keys (suc n) k = record { key = k; target = 97 } ∷ keys n (suc k)
 
 abbrev folded : ℕ → List ℕ
-folded n = plateBytes edition1 (record { flag = true; foldings = keys n 1; rules = [] })
+folded n = plateBytes (record { flag = true; foldings = keys n 1; rules = [] })
 
 abbrev cases : List Case
 cases =
@@ -89,8 +89,8 @@ cases =
     -- rules of one first code point and one byte length stand in text order: `ab`, then `aa`
     ∷ Written (lines ("\"ab\" \"1\" \"\" \"\"" ∷ "\"aa\" \"2\" \"4|\" \"\"" ∷ [])) false
     (0x01 ∷ 0x00 ∷ 0x80 ∷ 0x00 ∷ 0x13 ∷ 0x0B ∷ 0x10 ∷ 0x91 ∷ 0x10 ∷ 0x20 ∷ 0x4C ∷ 0x2C ∷ 0x22 ∷ 0x48 ∷ 0x8A ∷ 0x01 ∷ 0x00 ∷ [])
-    -- "at most 512 rules, 128 foldings": that a plate may have 512 the largest one shows (proofs/Largest.antt)
-    ∷ Taken (ruled 513) 10
+    -- at most 1,500 rules, 128 foldings: that a plate may have 1,500 the largest one shows (proofs/Largest.antt)
+    ∷ Taken (ruled 1501) 10
     ∷ Taken (folded 128) 0
     ∷ Taken (folded 129) 10
     -- a text of 65,536 bytes; in a `//` comment a CR belongs to the comment

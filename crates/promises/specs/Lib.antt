@@ -8,3 +8,4 @@ pub mod Demands
 pub mod Pair
 pub mod Once
 pub mod Place
+pub mod Before

@@ -5,7 +5,7 @@ use mathlib.Core.Bool.{Bool, true}
 use mathlib.Core.List.{List, [], _∷_}
 use Rattle.rule_text.specs.Items.{Saying, Item, items}
 use Rattle.rule_text.specs.Items.Saying.{RuleItem, FoldingItem, LineEndItem, CommentItem, UnknownItem}
-use Rattle.plate.specs.Plate.{Folding, Rule, Plate, edition1, goodPlate}
+use Rattle.plate.specs.Plate.{Folding, Rule, Plate, goodPlate}
 use Rattle.plate.specs.Written.{plateBytes}
 use Rattle.rule_text.specs.Fields.{bar}
 use Rattle.book.specs.Book.{putRule, putFolding, ruleOf, foldingOf}
@@ -52,4 +52,4 @@ plateSaid flag text = record { flag = flag; foldings = putFoldings [] (foldingsO
 
 -- The bytes are those of a plate that obeys the table.
 abbrev pub IsPlate : Plate → List ℕ → Type 0
-IsPlate p bytes = (goodPlate edition1 p ≡ true) × (bytes ≡ plateBytes edition1 p)
+IsPlate p bytes = (goodPlate p ≡ true) × (bytes ≡ plateBytes p)

@@ -15,7 +15,7 @@ use Rattle.rule_text.specs.Items.{Saying, Item, items, lineOf}
 use Rattle.rule_text.specs.Items.Saying.{RuleItem, FoldingItem, LineEndItem, CommentItem, UnknownItem}
 use Rattle.rule_text.specs.Fields.{alternatives}
 use Rattle.chars.specs.Digits.{isAlternative}
-use Rattle.plate.specs.Plate.{Folding, Plate, edition1}
+use Rattle.plate.specs.Plate.{Folding, Plate}
 use Rattle.plate.specs.Written.{plateBytes}
 use Rattle.branches.specs.Branches.{Use, start, run}
 use Rattle.coder.specs.Answer.{room}
@@ -89,8 +89,8 @@ abbrev pub keys : List ℕ → List Folding → List ℕ
 keys known [] = known
 keys known (f ∷ more) = keys (cond (some (eqb (f .key)) known) known (known ++ (f .key ∷ []))) more
 
--- What an item says, behind what others said, 0 for no fault. 3: "an item of rule text is not recognised"; 4: "empty pattern"; 5: "pattern over 16 bytes"; 8: "rule 513, or the
--- 129th distinct folding key". "Inside a rule: 4, 5, then the three fields left to right, then 8."
+-- What an item says, behind what others said, 0 for no fault. 3: "an item of rule text is not recognised"; 4: "empty pattern"; 5: "pattern over 16 bytes"; 8: "rule 1,501 or,
+-- as before, the 129th key" (02, M-106). "Inside a rule: 4, 5, then the three fields left to right, then 8."
 abbrev pub ItemNumber : List Saying → Saying → ℕ → Type 0
 ItemNumber before (RuleItem p s v o) n =
     Check n 4 (p ≡ [])
@@ -98,7 +98,7 @@ ItemNumber before (RuleItem p s v o) n =
     (FieldNumber s n
     (FieldNumber v n
     (FieldNumber o n
-    (Check n 8 (512 ≤ length (rulesOf before)) (n ≡ 0))))))
+    (Check n 8 (1500 ≤ length (rulesOf before)) (n ≡ 0))))))
 ItemNumber before (FoldingItem key target) n =
     let known = keys [] (foldingsOf before) in
     Check n 8 ((128 ≤ length known) × (In key known → ⊥)) (n ≡ 0)
@@ -120,7 +120,7 @@ BuildNumber text flag lent n line =
     Check n 1 (65536 < length text)
     (Check n 2 (NotClean text)
     (ItemsNumber text [] (items text) n line
-    (Check n 9 (length lent < length (plateBytes edition1 (plateSaid flag text))) (n ≡ 0))))
+    (Check n 9 (length lent < length (plateBytes (plateSaid flag text))) (n ≡ 0))))
     × (((3 ≤ n) × (n ≤ 8) → ⊥) → line ≡ 0)
 
 -- ---- no two numbers, no two places and no two lines meet the conditions for one input

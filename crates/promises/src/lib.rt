@@ -3,6 +3,7 @@
 ghost use Rattle.zengilvar.specs.Numbers.{built, coded};
 ghost use Rattle.promises.specs.Demands.{BuildRefuses, BuildGives, ListRefuses, ListGives, EncodeRefuses, EncodeGives, ListsChoices, EncodesFirst, PlatesKeep, TextsKeep, GivenAgain};
 ghost use Rattle.promises.specs.Once.{ListsOnce};
+ghost use Rattle.promises.specs.Before.{ListsAsBefore, EncodesAsBefore};
 use zengilvar::DmBuilt;
 use zengilvar::DmCoded;
 use zengilvar::dm_build;
@@ -104,4 +105,17 @@ fn lists_once(plate: &[u8], name: &[u8], out: &mut [u8]) -> DmCoded
     ensures { λ r. ⌜ ListsOnce (coded r (now (out .exit))) ⌝ }
 {
     dm_list(plate, name, out)
+}
+
+// M-106: a plate of before codes every name as before.
+fn lists_as_before(plate: &[u8], name: &[u8], out: &mut [u8]) -> DmCoded
+    ensures { λ r. ⌜ ListsAsBefore (now (plate .entry)) (now (name .entry)) (now (out .entry)) (coded r (now (out .exit))) ⌝ }
+{
+    dm_list(plate, name, out)
+}
+
+fn encodes_as_before(plate: &[u8], name: &[u8], out: &mut [u8]) -> DmCoded
+    ensures { λ r. ⌜ EncodesAsBefore (now (plate .entry)) (now (name .entry)) (now (out .entry)) (coded r (now (out .exit))) ⌝ }
+{
+    dm_encode(plate, name, out)
 }

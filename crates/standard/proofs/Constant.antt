@@ -11,8 +11,7 @@ use Rattle.rule_text.specs.Forms.{entry, quadruplet, folding, multilineComment,
 use Rattle.rule_text.specs.Forms.{escaped, partAt, letterAt, closing}
 use Rattle.rule_text.specs.Items.{itemsFrom}
 use Rattle.plate.specs.Bits.{bit, numberAt}
-use Rattle.plate.specs.Plate.{edition1}
-use Rattle.plate.specs.Read.{acceptedIn}
+use Rattle.plate.specs.Read.{accepted}
 use Rattle.builder.specs.Build.{verdict, buildAnswer}
 use Rattle.standard.specs.Plate.{standard}
 
@@ -100,6 +99,6 @@ computed = refl
 pub constant-built : constant ≡ standard
 constant-built = same-equal constant standard computed
 
-pub constant-accepted : acceptedIn edition1 constant ≡ true
+pub constant-accepted : accepted constant ≡ true
 unfolding textFrom bit numberAt
 constant-accepted = refl

@@ -3,14 +3,13 @@
 ghost use mathlib.Core.Path.{_≡_};
 ghost use lib.ListN.{length};
 ghost use mathlib.Core.Bool.{true};
-ghost use Rattle.plate.specs.Plate.{edition1};
-ghost use Rattle.plate.specs.Read.{acceptedIn};
+ghost use Rattle.plate.specs.Read.{accepted};
 ghost use Rattle.standard.specs.Plate.{standard};
 
 // Made once and lent: a constant array is laid on the stack anew wherever it is named.
 pub fn standard_plate() -> [u8; 1411]
     ensures { λ r. ⌜ r ≡ standard ⌝ }
-    ensures { λ r. ⌜ acceptedIn edition1 r ≡ true ⌝ }
+    ensures { λ r. ⌜ accepted r ≡ true ⌝ }
     ensures { λ r. ⌜ 1411 ≡ length r ⌝ }
 {
     PLATE

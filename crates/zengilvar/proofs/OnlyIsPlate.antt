@@ -4,8 +4,7 @@ use mathlib.Core.Path.{_≡_}
 use mathlib.Core.Bool.{Bool}
 use mathlib.Core.List.{List}
 use Rattle.laws.proofs.Only.{only}
-use Rattle.plate.specs.Plate.{edition1}
-use Rattle.plate.specs.Read.{acceptedIn}
+use Rattle.plate.specs.Read.{accepted}
 
-pub dm-is-plate : (plate : List ℕ) (r r′ : Bool) → r ≡ acceptedIn edition1 plate → r′ ≡ acceptedIn edition1 plate → r ≡ r′
+pub dm-is-plate : (plate : List ℕ) (r r′ : Bool) → r ≡ accepted plate → r′ ≡ accepted plate → r ≡ r′
 dm-is-plate plate r r′ e f = only e f

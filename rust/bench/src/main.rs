@@ -69,12 +69,12 @@ fn text_of(content: &Content) -> String {
     text
 }
 
-/// The standard rules and more of their kind behind them, up to 512 rules; with `full` all fields are filled, the
-/// foldings are 128 and the plate is the longest there is.
-fn large(full: bool) -> Content {
+/// The standard rules and more of their kind behind them, so many in all; with `full` all fields are filled, the
+/// foldings are 128 and the plate is the longest of so many rules.
+fn large(rules: usize, full: bool) -> Content {
     let mut content = text::read(STANDARD.as_bytes(), true).expect("the standard rules are built");
     let mut number = 0;
-    while content.rules.len() < 512 {
+    while content.rules.len() < rules {
         let letters = ["qv", "xq", "vw", "jx"][number % 4];
         let mut rule = content.rules[number % 124].clone();
         rule.pattern = format!("{letters}{number:03}");
@@ -194,12 +194,14 @@ fn main() {
 
     head("list by plate, `Rosochowaciec`");
     let name = vec!["Rosochowaciec".to_string()];
-    let (wide, full) = (large(false), large(true));
+    let (wide, full, wide_2, full_2) = (large(512, false), large(512, true), large(1_500, false), large(1_500, true));
     let plates = [
         from_text("11 rules", SMALL),
         from_text("124 rules", STANDARD),
         rules("512 rules", &text_of(&wide), &wide),
         rules("512 rules, the longest plate", &text_of(&full), &full),
+        rules("1,500 rules", &text_of(&wide_2), &wide_2),
+        rules("1,500 rules, the longest plate", &text_of(&full_2), &full_2),
     ];
     for rules in &plates {
         let words = format!("{}, {} bytes", rules.words, rules.plate.len());
@@ -221,7 +223,7 @@ fn main() {
 
     println!("\n| deepest stack | bytes |\n|---|---|");
     let mut out = vec![0; LONGEST_PLATE];
-    let full_plate = &plates[3].plate;
+    let full_plate = &plates[5].plate;
     let long = "ca".repeat(6) + &"r".repeat(244);
     stack::tell("build, standard rules", || {
         raw::build(STANDARD.as_bytes(), true, &mut out);

@@ -208,7 +208,7 @@ fn limits(runs: &mut Runs) {
             texts.push(line("ab", "0", "0", &field).into());
         }
     }
-    for count in [510, 511, 512, 513, 514] {
+    for count in [510, 511, 512, 513, 514, 1_498, 1_499, 1_500, 1_501, 1_502] {
         let rules: String = (0..count)
             .map(|place| line(&format!("{}{}", letter(place), letter(place / 26)), "1", "2", "3|4"))
             .collect();
@@ -264,7 +264,7 @@ fn orders(runs: &mut Runs) {
             }
         }
     }
-    let rules = "\"b\" \"\" \"\" \"\"\n".repeat(512);
+    let rules = "\"b\" \"\" \"\" \"\"\n".repeat(1_500);
     let keys: String =
         (0..128).filter_map(|place| char::from_u32(0x100 + place)).map(|key| format!("{key}=a\n")).collect();
     let faults = [
@@ -411,13 +411,18 @@ fn damaged_texts(runs: &mut Runs, random: &mut Random, texts: usize) {
     runs.section("damaged texts");
 }
 
-/// Plates as long as can be, and plates whose 512 rules all begin with one letter.
+/// Plates of either edition as long as can be, plates whose rules all begin with one letter, and plates that hold more or fewer rules than their edition.
 fn full_plates(runs: &mut Runs, random: &mut Random, plates: usize) {
     for place in 0..plates {
-        let bytes = match place % 2 {
-            0 => plate::write(&made::longest_plate(random)),
-            _ => plate::write(&made::crowded_plate(random)),
+        let rules = [512, 1_500, 513, random.within(514, 1_499)][place / 2 % 4];
+        let content = match place % 2 {
+            0 => made::longest_plate(random, rules),
+            _ => made::crowded_plate(random, rules),
         };
+        let other = &plate::EDITIONS[(rules <= 512) as usize];
+        let ready = runs.plate(plate::write_in(other, &content));
+        runs.name(&ready, b"ro");
+        let bytes = plate::write(&content);
         let ready = runs.plate(bytes.clone());
         names(runs, random, &ready, 6);
         for damaged in [bytes[..bytes.len() - 1].to_vec(), [bytes, vec![0]].concat()] {

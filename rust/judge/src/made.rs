@@ -276,25 +276,25 @@ pub fn surname(random: &mut Random) -> String {
     }
 }
 
-/// 512 rules of 16 bytes, eight alternatives of six digits in every field, 128 foldings: 51,428 bytes.
-pub fn longest_plate(random: &mut Random) -> Content {
+/// Rules of 16 bytes, eight alternatives of six digits in every field, 128 foldings: 51,428 bytes for 512 rules, 149,364 for 1,500.
+pub fn longest_plate(random: &mut Random, rules: usize) -> Content {
     let mut content = Content { folding: true, ..Content::default() };
     content.foldings.extend((0xE0..0x160).filter_map(char::from_u32).map(|key| (key, 'a')));
-    for number in 0..512 {
-        let first = ["a", "c", "m", "r"][number / 128];
+    for number in 0..rules {
+        let first = ["a", "c", "m", "r"][number * 4 / rules];
         let mut field = || (0..8).map(|_| format!("{:06}", random.below(1_000_000))).collect();
         content.rules.push(Rule { pattern: format!("{first}{number:015}"), fields: [field(), field(), field()] });
     }
     content
 }
 
-/// 512 rules that begin with r, the longest first, each pattern several times.
-pub fn crowded_plate(random: &mut Random) -> Content {
+/// Rules that begin with r, the longest first, each pattern several times.
+pub fn crowded_plate(random: &mut Random, rules: usize) -> Content {
     let mut content = Content::default();
-    for number in 0..512 {
+    for number in 0..rules {
         let mut field = || vec![random.below(10).to_string()];
         let fields = [field(), field(), field()];
-        content.rules.push(Rule { pattern: format!("r{}", "o".repeat(15 - number / 32)), fields });
+        content.rules.push(Rule { pattern: format!("r{}", "o".repeat(15 - number * 16 / rules)), fields });
     }
     content
 }
@@ -306,12 +306,15 @@ mod tests {
 
     #[test]
     fn the_longest_plate() {
-        assert_eq!(plate::write(&longest_plate(&mut Random::new(1))).len(), 51_428);
+        assert_eq!(plate::write(&longest_plate(&mut Random::new(1), 512)).len(), 51_428);
+        assert_eq!(plate::write(&longest_plate(&mut Random::new(1), 1_500)).len(), 149_364);
     }
 
     #[test]
     fn a_crowded_plate_is_one() {
-        let content = crowded_plate(&mut Random::new(1));
-        assert_eq!(plate::read(&plate::write(&content)), Some(content));
+        for rules in [512, 513, 1_500] {
+            let content = crowded_plate(&mut Random::new(1), rules);
+            assert_eq!(plate::read(&plate::write(&content)), Some(content));
+        }
     }
 }

@@ -3,14 +3,31 @@
 use crate::text::{ALTERNATIVES, DIGITS, KEYS, PATTERN, RULES};
 use crate::{Content, Rule};
 
+/// An edition: its number, the bits of its rule count, the least and the most rules.
+pub struct Edition {
+    pub number: usize,
+    pub width: usize,
+    pub least: usize,
+    pub most: usize,
+}
+
+pub const EDITIONS: [Edition; 2] =
+    [Edition { number: 1, width: 10, least: 0, most: 512 }, Edition { number: 2, width: 11, least: 513, most: RULES }];
+
 /// The bytes of a plate.
 pub fn write(content: &Content) -> Vec<u8> {
+    let edition = EDITIONS.iter().find(|edition| content.rules.len() <= edition.most).unwrap_or(&EDITIONS[1]);
+    write_in(edition, content)
+}
+
+/// The bytes of a plate of an edition, whether it may hold so many rules or not.
+pub fn write_in(edition: &Edition, content: &Content) -> Vec<u8> {
     let mut bits = Vec::new();
-    put(&mut bits, 8, 1);
-    put(&mut bits, 10, content.rules.len());
+    put(&mut bits, 8, edition.number);
+    put(&mut bits, edition.width, content.rules.len());
     put(&mut bits, 8, content.foldings.len());
     put(&mut bits, 1, content.folding as usize);
-    put(&mut bits, 5, 0);
+    put(&mut bits, 15 - edition.width, 0);
     for (key, target) in &content.foldings {
         put(&mut bits, 21, *key as usize);
         put(&mut bits, 21, *target as usize);
@@ -46,13 +63,12 @@ fn put(bits: &mut Vec<bool>, width: usize, value: usize) {
 pub fn read(bytes: &[u8]) -> Option<Content> {
     let mut bits = bytes.iter().flat_map(|byte| (0..8).rev().map(move |place| byte >> place & 1));
     let mut take = |width: usize| (0..width).try_fold(0, |sum, _| Some(2 * sum + bits.next()? as usize));
-    if take(8)? != 1 {
-        return None;
-    }
-    let rule_count = within(take(10)?, 0, RULES)?;
+    let number = take(8)?;
+    let edition = EDITIONS.iter().find(|edition| edition.number == number)?;
+    let rule_count = within(take(edition.width)?, edition.least, edition.most)?;
     let folding_count = within(take(8)?, 0, KEYS)?;
     let mut content = Content { folding: take(1)? == 1, ..Content::default() };
-    within(take(5)?, 0, 0)?;
+    within(take(15 - edition.width)?, 0, 0)?;
     for _ in 0..folding_count {
         let (key, target) = (scalar(take(21)?)?, scalar(take(21)?)?);
         if content.foldings.last_key_value().is_some_and(|(last, _)| *last >= key) {

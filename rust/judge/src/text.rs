@@ -8,7 +8,7 @@ pub const TEXT: usize = 65_536;
 pub const PATTERN: usize = 16;
 pub const ALTERNATIVES: usize = 8;
 pub const DIGITS: usize = 6;
-pub const RULES: usize = 512;
+pub const RULES: usize = 1_500;
 pub const KEYS: usize = 128;
 
 /// An item of rule text.

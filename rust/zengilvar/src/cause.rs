@@ -31,7 +31,7 @@ const CAUSES: [(Cause, u64, &str); 12] = [
     (Cause::LongPattern, 5, "a pattern over 16 bytes"),
     (Cause::ManyAlternatives, 6, "a field with over 8 alternatives"),
     (Cause::NotDigits, 7, "an alternative that is not 0 to 6 digits"),
-    (Cause::TooMany, 8, "over 512 rules, or over 128 folded characters"),
+    (Cause::TooMany, 8, "over 1,500 rules, or over 128 folded characters"),
     (Cause::ShortBuffer, 9, "the buffer is shorter than the plate"),
     (Cause::NotAPlate, 10, "the plate is damaged or no plate"),
     (Cause::CharacterNotAllowed, 11, "a character that is neither white space nor below U+0180"),

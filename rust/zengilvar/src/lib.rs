@@ -33,7 +33,10 @@ pub use error::{ParseError, PhoneticError, Refusal};
 pub const LONGEST_TEXT: usize = 65_536;
 
 /// The longest plate, in bytes.
-pub const LONGEST_PLATE: usize = 51_428;
+pub const LONGEST_PLATE: usize = 149_364;
+
+/// The longest plate of edition 1, which every plate of at most 512 rules is.
+pub const LONGEST_PLATE_1: usize = 51_428;
 
 /// The longest name, in bytes.
 pub const LONGEST_NAME: usize = 256;

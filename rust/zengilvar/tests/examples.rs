@@ -130,7 +130,7 @@ fn broken_names() {
 
 #[test]
 fn refused_texts() {
-    let many = "\"a\" \"\" \"\" \"\"\n".repeat(513);
+    let many = "\"a\" \"\" \"\" \"\"\n".repeat(1_501);
     let long = "\n".repeat(65_537);
     let texts = [
         (long.as_str(), Cause::TooLong, 0, ""),
@@ -149,7 +149,7 @@ fn refused_texts() {
         ("\n\"aaaaaaaaaaaaaaaaa\" \"\" \"\" \"\"", Cause::LongPattern, 2, "\"aaaaaaaaaaaaaaaaa\" \"\" \"\" \"\""),
         ("\"a\" \"||||||||\" \"x\" \"\"", Cause::ManyAlternatives, 1, "\"a\" \"||||||||\" \"x\" \"\""),
         ("é=e\n\"a\" \"x\" \"||||||||\" \"\"", Cause::NotDigits, 2, "\"a\" \"x\" \"||||||||\" \"\""),
-        (many.as_str(), Cause::TooMany, 513, "\"a\" \"\" \"\" \"\""),
+        (many.as_str(), Cause::TooMany, 1_501, "\"a\" \"\" \"\" \"\""),
     ];
     for (text, cause, line, content) in texts {
         let Err(PhoneticError::ParseRuleError(error)) = DaitchMokotoffSoundexBuilder::with_rules(text).build() else {

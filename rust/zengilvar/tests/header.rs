@@ -1,7 +1,7 @@
 //! The wrapper says what include/zengilvar.h says: numbers, words, constants, version, layout.
 
 use std::mem::{offset_of, size_of};
-use zengilvar::{raw, Cause, LONGEST_LIST, LONGEST_NAME, LONGEST_PLATE, LONGEST_TEXT};
+use zengilvar::{raw, Cause, LONGEST_LIST, LONGEST_NAME, LONGEST_PLATE, LONGEST_PLATE_1, LONGEST_TEXT};
 
 const HEADER: &str = include_str!("../../../include/zengilvar.h");
 
@@ -24,7 +24,7 @@ const CAUSES: [(Cause, u64, &str, &str); 12] = [
     (Cause::LongPattern, 5, "LONG_PATTERN", "a pattern over 16 bytes"),
     (Cause::ManyAlternatives, 6, "MANY_ALTERNATIVES", "a field with over 8 alternatives"),
     (Cause::NotDigits, 7, "NOT_DIGITS", "an alternative that is not 0 to 6 digits"),
-    (Cause::TooMany, 8, "TOO_MANY", "over 512 rules, or over 128 folded characters"),
+    (Cause::TooMany, 8, "TOO_MANY", "over 1,500 rules, or over 128 folded characters"),
     (Cause::ShortBuffer, 9, "SHORT_BUFFER", "the buffer is shorter than the plate"),
     (Cause::NotAPlate, 10, "NOT_A_PLATE", "the plate is damaged or no plate"),
     (
@@ -57,6 +57,7 @@ fn numbers_and_words() {
 fn constants() {
     assert_eq!(LONGEST_TEXT, defined("DM_TEXT_MOST"));
     assert_eq!(LONGEST_PLATE, defined("DM_PLATE_MOST"));
+    assert_eq!(LONGEST_PLATE_1, defined("DM_PLATE_MOST_1"));
     assert_eq!(LONGEST_NAME, defined("DM_NAME_MOST"));
     assert_eq!(LONGEST_LIST, defined("DM_LIST_MOST"));
     assert_eq!(env!("CARGO_PKG_VERSION"), behind("#define DM_VERSION \"", &['"']));

@@ -4,7 +4,7 @@ use judge::random::Random;
 use judge::{made, plate, SMALL};
 use zengilvar::{
     raw, Cause, DaitchMokotoffSoundex, DaitchMokotoffSoundexBuilder, Encoder, LONGEST_LIST, LONGEST_NAME,
-    LONGEST_PLATE, LONGEST_TEXT,
+    LONGEST_PLATE, LONGEST_PLATE_1, LONGEST_TEXT,
 };
 
 fn small() -> DaitchMokotoffSoundex {
@@ -12,17 +12,20 @@ fn small() -> DaitchMokotoffSoundex {
 }
 
 #[test]
-fn the_longest_plate() {
-    let content = made::longest_plate(&mut Random::new(1));
-    let bytes = plate::write(&content);
-    assert_eq!(bytes.len(), LONGEST_PLATE);
-    let coder = DaitchMokotoffSoundex::with_plate(bytes.clone()).expect("a plate");
-    let rule = &content.rules[511];
-    assert_eq!(coder.soundex(&rule.pattern), Ok(rule.fields[0].join("|")));
-    assert_eq!(coder.encode(&rule.pattern).as_ref(), Ok(&rule.fields[0][0]));
-    let longer = [bytes, vec![0]].concat();
-    assert_eq!(longer.len(), LONGEST_PLATE + 1);
-    assert_eq!(DaitchMokotoffSoundex::with_plate(longer).map_err(|error| error.cause()), Err(Cause::NotAPlate));
+fn the_longest_plates() {
+    for (rules, longest) in [(512, LONGEST_PLATE_1), (1_500, LONGEST_PLATE)] {
+        let content = made::longest_plate(&mut Random::new(1), rules);
+        let bytes = plate::write(&content);
+        assert_eq!(bytes.len(), longest);
+        let coder = DaitchMokotoffSoundex::with_plate(bytes.clone()).expect("a plate");
+        let rule = &content.rules[rules - 1];
+        assert_eq!(coder.soundex(&rule.pattern), Ok(rule.fields[0].join("|")));
+        assert_eq!(coder.encode(&rule.pattern).as_ref(), Ok(&rule.fields[0][0]));
+        let longer = [bytes.clone(), vec![0]].concat();
+        for damaged in [longer, bytes[..longest - 1].to_vec()] {
+            assert_eq!(DaitchMokotoffSoundex::with_plate(damaged).map_err(|error| error.cause()), Err(Cause::NotAPlate));
+        }
+    }
 }
 
 /// The largest plate that a text can give fills a text of nearly its longest.

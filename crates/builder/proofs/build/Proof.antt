@@ -5,6 +5,7 @@ use mathlib.Core.List.{List}
 use native.Mathlib.Omega.{arith}
 use borrow.Author.Needs.{needs}
 use lib.ListN.{length}
+use Rattle.plate.specs.Most.{mostRules}
 use Rattle.rule_text.specs.Items.{items}
 use Rattle.book.specs.Book.{Book, blank}
 use Rattle.book.specs.Note.{bookOf}
@@ -67,7 +68,7 @@ fine c =
     let text = entered (good (noted c)) .args .text .now in
     subst (SurveyIs text (keys c) (foldings c) (verdict blank (items text))) (c .tally .given .1) (noted c .survey .ensures)
 
-few : (c : tie.After-tally) → (tally c .foldings ≤ 128) × (tally c .bits ≤ 406016)
+few : (c : tie.After-tally) → (tally c .foldings ≤ 128) × (tally c .bits ≤ 793 * mostRules)
 few c =
     let k = fine c .0 in
     let pairs = k .pairs .few in

@@ -3,8 +3,7 @@ use mathlib.Core.Path.{sym, _∙_}
 use native.Mathlib.Omega.{arith}
 use borrow.Author.Needs.{needs}
 use lib.Seq.{length-take-le}
-use Rattle.plate.specs.Plate.{edition1}
-use Rattle.plate.specs.Read.{plateAt}
+use Rattle.plate.specs.Read.{plateIn}
 use Rattle.coder.specs.Outcome.{listedTo}
 use Rattle.coder.proofs.Answers.{by-name}
 use Rattle.coder.proofs.answer.code_accepted.Statement.{statement}
@@ -46,21 +45,21 @@ returns c =
     let prepared = c .before .before in
     let known = prepared .before .before .before .before in
     let a = known .before .before .before .before .args in
-    by-name (listedTo (a .most)) (plateAt (edition1 .width) (a .plate .now)) (a .name .now) (a .out .now) _ (rw (c .enum-told .given .1) at (prepared .prepare .ensures .is))
+    by-name (listedTo (a .most)) (plateIn (a .plate .now)) (a .name .now) (a .out .now) _ (rw (c .enum-told .given .1) at (prepared .prepare .ensures .is))
 
 returns-2 : tie.Need-returns-2
 returns-2 c =
     let prepared = c .before .before .before in
     let known = prepared .before .before .before .before in
     let a = known .before .before .before .before .args in
-    by-name (listedTo (a .most)) (plateAt (edition1 .width) (a .plate .now)) (a .name .now) (a .out .now) _ (rw (c .before .fault .given .1) at (prepared .prepare .ensures .is))
+    by-name (listedTo (a .most)) (plateIn (a .plate .now)) (a .name .now) (a .out .now) _ (rw (c .before .fault .given .1) at (prepared .prepare .ensures .is))
 
 returns-3 : tie.Need-returns-3
 returns-3 c =
     let prepared = c .before .before .before in
     let known = prepared .before .before .before .before in
     let a = known .before .before .before .before .args in
-    by-name (listedTo (a .most)) (plateAt (edition1 .width) (a .plate .now)) (a .name .now) (a .out .now) _ (rw (c .before .fault2 .given .1) at (prepared .prepare .ensures .is))
+    by-name (listedTo (a .most)) (plateIn (a .plate .now)) (a .name .now) (a .out .now) _ (rw (c .before .fault2 .given .1) at (prepared .prepare .ensures .is))
 
 same-length : tie.Need-same-length
 same-length c = search needs
@@ -73,7 +72,7 @@ returns-4 c =
     let known = prepared .before .before .before .before in
     let a = known .before .before .before .before .args in
     coded .code-chars .ensures
-    ∙ by-name (listedTo (a .most)) (plateAt (edition1 .width) (a .plate .now)) (a .name .now) (a .out .now) _ (rw (told .enum-told2 .given .1) at (prepared .prepare .ensures .is))
+    ∙ by-name (listedTo (a .most)) (plateIn (a .plate .now)) (a .name .now) (a .out .now) _ (rw (told .enum-told2 .given .1) at (prepared .prepare .ensures .is))
 
 pub code-accepted-spec : {M : Type 1} → statement M
 code-accepted-spec =

@@ -3,8 +3,7 @@ use mathlib.Core.Path.{sym, _∙_}
 use mathlib.Core.List.{map}
 use native.Mathlib.Omega.{arith}
 use borrow.Author.Needs.{needs}
-use Rattle.plate.specs.Plate.{edition1}
-use Rattle.plate.specs.Read.{plateAt}
+use Rattle.plate.specs.Read.{plateIn}
 use lib.ListN.{length-map}
 use Rattle.branches.specs.Branches.{code}
 use Rattle.branches.specs.Held.{branchesOf}
@@ -27,7 +26,7 @@ returns c =
     let room = ran .before in
     let known = room .before .before in
     let a = known .before .before .before .before .args in
-    let us = cutAll (a .most) (uses (plateAt (edition1 .width) (a .plate .now) .rules) (a .chars .now)) in
+    let us = cutAll (a .most) (uses (plateIn (a .plate .now) .rules) (a .chars .now)) in
     let r = ran .run in
     sym (too-many us (a .out .now) (room .room-of .result) (room .room-of .ensures .0) (r .result .over) (branchesOf (r .result .next)) (r .ensures .1) (c .if1 .taken))
 
@@ -42,7 +41,7 @@ write-requires c κs =
     let room = ran .before in
     let known = room .before .before in
     let a = known .before .before .before .before .args in
-    let us = cutAll (a .most) (uses (plateAt (edition1 .width) (a .plate .now) .rules) (a .chars .now)) in
+    let us = cutAll (a .most) (uses (plateIn (a .plate .now) .rules) (a .chars .now)) in
     let r = ran .run in
     let bs = r .result .next in
     let k = within us (a .out .now) (room .room-of .result) (room .room-of .ensures .0) (r .result .over) (branchesOf bs) (r .ensures .1) (tested .if1 .left) in
@@ -63,7 +62,7 @@ returns-2 c =
     let room = ran .before in
     let known = room .before .before in
     let a = known .before .before .before .before .args in
-    let us = cutAll (a .most) (uses (plateAt (edition1 .width) (a .plate .now) .rules) (a .chars .now)) in
+    let us = cutAll (a .most) (uses (plateIn (a .plate .now) .rules) (a .chars .now)) in
     let r = ran .run in
     let o = listed .once-each in
     let count = items-count (o .result .items) (o .result .count) (first-ok (o .result .items) (o .result .count) (o .ensures .0)) in

@@ -3,15 +3,14 @@ use mathlib.Core.Path.{_≡_, sym, _∙_}
 use mathlib.Core.Bool.{true}
 use borrow.Author.Tests.{not-true, not-false}
 use borrow.Author.Needs.{needs}
-use Rattle.plate.specs.Plate.{edition1}
-use Rattle.plate.specs.Read.{acceptedIn}
+use Rattle.plate.specs.Read.{accepted}
 use Rattle.coder.proofs.Answers.{no-plate, by-plate}
 use Rattle.coder.proofs.answer.code_name.Statement.{statement}
 use Rattle.coder.proofs.answer.code_name.Tie as tie
 
 -- The bytes are a plate.
-accepted : (c : tie.Else1) → let noting = c .before .before .before in let known = noting .before .before in acceptedIn edition1 (known .before .before .before .before .args .plate .now) ≡ true
-accepted c = let noting = c .before .before .before in sym (noting .accept-noting .ensures .0) ∙ not-false (noting .accept-noting .result) (c .if1 .left)
+is-plate : (c : tie.Else1) → let noting = c .before .before .before in let known = noting .before .before in accepted (known .before .before .before .before .args .plate .now) ≡ true
+is-plate c = let noting = c .before .before .before in sym (noting .accept-noting .ensures .0) ∙ not-false (noting .accept-noting .result) (c .if1 .left)
 
 slice-aggregate-accept-noting : tie.Need-slice-aggregate-accept-noting
 slice-aggregate-accept-noting c = search needs
@@ -39,7 +38,7 @@ code-accepted-requires : tie.Need-code-accepted-requires
 code-accepted-requires c κs =
     let tested = c .before .before .before in
     let noting = tested .before .before .before in
-    (accepted tested, rw (not-false (noting .accept-noting .result) (tested .if1 .left)) at (noting .accept-noting .ensures .1))
+    (is-plate tested, rw (not-false (noting .accept-noting .result) (tested .if1 .left)) at (noting .accept-noting .ensures .1))
 
 same-length : tie.Need-same-length
 same-length c = search needs
@@ -51,7 +50,7 @@ returns-2 c =
     let noting = tested .before .before .before in
     let known = noting .before .before in
     let a = known .before .before .before .before .args in
-    coded .code-accepted .ensures ∙ sym (by-plate (a .most) (a .plate .now) (a .name .now) (a .out .now) (accepted tested))
+    coded .code-accepted .ensures ∙ sym (by-plate (a .most) (a .plate .now) (a .name .now) (a .out .now) (is-plate tested))
 
 pub code-name-spec : {M : Type 1} → statement M
 code-name-spec =

@@ -7,8 +7,8 @@ use mathlib.Core.Path.{_≡_, sym, _∙_}
 use native.Mathlib.Omega.{arith}
 use borrow.Author.Needs.{needs}
 use lib.ListN.{length, replicate, length-replicate}
-use Rattle.plate.specs.Plate.{Plate, edition1}
-use Rattle.plate.specs.Read.{plateAt}
+use Rattle.plate.specs.Plate.{Plate}
+use Rattle.plate.specs.Read.{plateIn}
 use Rattle.coder.specs.Name.{named}
 use Rattle.coder.specs.Held.{namedBy, PreparedIs}
 use Rattle.coder.specs.declared.NameFault.{NameFault}
@@ -18,7 +18,7 @@ use Rattle.coder.proofs.name.prepare.Statement.{statement}
 use Rattle.coder.proofs.name.prepare.Tie as tie
 
 abbrev Inv-loop : tie.InvT-loop
-Inv-loop plate name t chars₀ count₀ at₀ chars count at = (count ≤ at) × (at ≤ length name) × Made (plateAt (edition1 .width) plate) name chars count at
+Inv-loop plate name t chars₀ count₀ at₀ chars count at = (count ≤ at) × (at ≤ length name) × Made (plateIn plate) name chars count at
 
 abbrev μ-loop : tie.MeasureT-loop
 μ-loop plate name t chars₀ count₀ at₀ chars count at = length name - at
@@ -56,7 +56,7 @@ no-chars-requires c κs = tt
 returns : tie.Need-returns Inv-loop μ-loop
 returns c =
     let a = c .before .before .before .before .args in
-    refuses _ _ _ _ (c .no-chars .ensures) (too-long (plateAt (edition1 .width) (a .plate .now)) (a .name .now) (c .before .if1 .taken))
+    refuses _ _ _ _ (c .no-chars .ensures) (too-long (plateIn (a .plate .now)) (a .name .now) (c .before .if1 .taken))
 
 loop-holds : tie.Need-loop-holds Inv-loop μ-loop
 loop-holds c = (omega arith, omega arith, start _ _ (c .if1 .left))

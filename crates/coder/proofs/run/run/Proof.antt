@@ -4,8 +4,7 @@ use Prim.Native.Nat.{_-_, _≤_, _<_}
 use native.Mathlib.Omega.{arith}
 use borrow.Author.Tests.{not-true, not-false}
 use lib.ListN.{length}
-use Rattle.plate.specs.Plate.{edition1}
-use Rattle.plate.specs.Read.{plateAt}
+use Rattle.plate.specs.Read.{plateIn}
 use Rattle.branches.specs.Held.{BranchesOk, branchesOf}
 use Rattle.coder.proofs.Steps.{no-room, begin, done, used-over, used-on, Left}
 use Rattle.coder.proofs.run.run.Statement.{statement}
@@ -13,7 +12,7 @@ use Rattle.coder.proofs.run.run.Tie as tie
 
 abbrev Inv-loop : tie.InvT-loop
 Inv-loop plate places groups name most room bs₀ started₀ before₀ at₀ bs started before at =
-    BranchesOk bs × Left (plateAt (edition1 .width) plate .rules) name most room started before at (branchesOf bs)
+    BranchesOk bs × Left (plateIn plate .rules) name most room started before at (branchesOf bs)
 
 abbrev μ-loop : tie.MeasureT-loop
 μ-loop plate places groups name most room bs₀ started₀ before₀ at₀ bs started before at = length name - at
@@ -32,7 +31,7 @@ returns c =
     let a = known .before .before .before .before .args in
     let z = tested .if1 .taken in
     let h : a .room < 1 = omega arith in
-    rw (c .stepped .ensures) (begun .start .ensures .0, no-room (plateAt (edition1 .width) (a .plate .now) .rules) (a .name .now) (a .most) (a .room) h)
+    rw (c .stepped .ensures) (begun .start .ensures .0, no-room (plateIn (a .plate .now) .rules) (a .name .now) (a .most) (a .room) h)
 
 loop-holds : tie.Need-loop-holds Inv-loop μ-loop
 loop-holds c =
@@ -41,7 +40,7 @@ loop-holds c =
     let a = known .before .before .before .before .args in
     let z = c .if1 .left in
     let h : 1 ≤ a .room = omega arith in
-    (begun .start .ensures .0, begin (plateAt (edition1 .width) (a .plate .now) .rules) (a .name .now) (a .most) (a .room) (branchesOf (begun .start .result)) h (begun .start .ensures .1))
+    (begun .start .ensures .0, begin (plateIn (a .plate .now) .rules) (a .name .now) (a .most) (a .room) (branchesOf (begun .start .result)) h (begun .start .ensures .1))
 
 next-use-requires : tie.Need-next-use-requires Inv-loop μ-loop
 next-use-requires c κs =
@@ -64,7 +63,7 @@ returns-2 c =
     let u = next .next-use in
     rw (c .stepped2 .ensures) (
       l .inv .0,
-      done (plateAt (edition1 .width) (a .plate .now) .rules) (a .name .now) (a .most) (a .room) (l .started) (l .before) (l .at) (branchesOf (l .bs)) (l .inv .1)
+      done (plateIn (a .plate .now) .rules) (a .name .now) (a .most) (a .room) (l .started) (l .before) (l .at) (branchesOf (l .bs)) (l .inv .1)
           (u .result) (u .ensures) (not-true (u .result .found) (tested .if2 .taken)),
     )
 
@@ -87,7 +86,7 @@ returns-3 c =
     let u = next .next-use in
     let found = not-false (u .result .found) (tested .if2 .left) in (
       met .step .ensures .1,
-      rw (c .if3 .taken) (used-over (plateAt (edition1 .width) (a .plate .now) .rules) (a .name .now) (a .most) (a .room) (l .started) (l .before) (l .at) (branchesOf (l .bs)) (l .inv .1)
+      rw (c .if3 .taken) (used-over (plateIn (a .plate .now) .rules) (a .name .now) (a .most) (a .room) (l .started) (l .before) (l .at) (branchesOf (l .bs)) (l .inv .1)
           (u .result) (u .ensures) found (met .step .result) (met .step .ensures) (c .if3 .taken)),
     )
 
@@ -113,7 +112,7 @@ loop-again c =
     let u = next .next-use in
     let found = not-false (u .result .found) (tested .if2 .left) in (
       met .step .ensures .1,
-      used-on (plateAt (edition1 .width) (a .plate .now) .rules) (a .name .now) (a .most) (a .room) (l .started) (l .before) (l .at) (branchesOf (l .bs)) (l .inv .1)
+      used-on (plateIn (a .plate .now) .rules) (a .name .now) (a .most) (a .room) (l .started) (l .before) (l .at) (branchesOf (l .bs)) (l .inv .1)
           (u .result) (u .ensures) found (met .step .result) (met .step .ensures) (kept .if3 .left),
     )
 

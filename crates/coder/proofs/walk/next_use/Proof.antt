@@ -8,8 +8,8 @@ use native.Mathlib.Omega.{arith}
 use borrow.Author.Needs.{needs}
 use lib.ListN.{length, take, drop, length-drop}
 use Rattle.laws.proofs.Lists.{rest}
-use Rattle.plate.specs.Plate.{Rule, edition1}
-use Rattle.plate.specs.Read.{ruleAt, plateAt}
+use Rattle.plate.specs.Plate.{Rule}
+use Rattle.plate.specs.Read.{ruleAt, plateIn}
 use Rattle.plate.specs.Stands.{fieldOf}
 use Rattle.plate.proofs.Facts.{rules-good, rules-ordered}
 use Rattle.branches.specs.Held.{useOf}
@@ -22,7 +22,7 @@ use Rattle.coder.proofs.walk.next_use.Tie as tie
 
 abbrev Inv-loop : tie.InvT-loop
 Inv-loop plate places groups name most begun last from started₀ before₀ at₀ started before at =
-    (from ≤ at) × (usesFrom (plateAt (edition1 .width) plate .rules) name most started before at ≡ usesFrom (plateAt (edition1 .width) plate .rules) name most begun last from)
+    (from ≤ at) × (usesFrom (plateIn plate .rules) name most started before at ≡ usesFrom (plateIn plate .rules) name most begun last from)
 
 abbrev μ-loop : tie.MeasureT-loop
 μ-loop plate places groups name most begun last from started₀ before₀ at₀ started before at = length name - at
@@ -36,7 +36,7 @@ abbrev name-of : tie.After-search Inv-loop μ-loop → List ℕ
 name-of s = let at-loop = s .before .before .before .before in let known = at-loop .before in known .before .before .before .before .args .name .now
 
 abbrev rules-of : tie.After-search Inv-loop μ-loop → List Rule
-rules-of s = plateAt (edition1 .width) (plate-of s) .rules
+rules-of s = plateIn (plate-of s) .rules
 
 abbrev here-of : tie.After-search Inv-loop μ-loop → ℕ
 here-of s = let at-loop = s .before .before .before .before in at-loop .loop .at
@@ -100,8 +100,7 @@ loop-again c =
     let below = s .before .before .before .loop-test .taken in
     let i = l .inv .0 in (
       omega arith,
-      known (rules-of s) (name-of s) (start .args .most) (rules-good edition1 (plate-of s) a) (rules-ordered edition1 (plate-of s) a) (l .started) (l .before)
-          (l .at) below (rw (c .if1 .taken) at (told k))
+      known (rules-of s) (name-of s) (start .args .most) (rules-good (plate-of s) a) (rules-ordered (plate-of s) a) (l .started) (l .before) (l .at) below (rw (c .if1 .taken) at (told k))
           ∙ l .inv .1,
     )
 
@@ -119,8 +118,7 @@ loop-again-2 c =
     let below = s .before .before .before .loop-test .taken in
     let i = l .inv .0 in (
       omega arith,
-      unknown (rules-of s) (name-of s) (start .args .most) (rules-good edition1 (plate-of s) a) (rules-ordered edition1 (plate-of s) a) (l .started) (l .before)
-          (l .at) below (rw (c .if1 .left) at (told k))
+      unknown (rules-of s) (name-of s) (start .args .most) (rules-good (plate-of s) a) (rules-ordered (plate-of s) a) (l .started) (l .before) (l .at) below (rw (c .if1 .left) at (told k))
           ∙ l .inv .1,
     )
 
@@ -165,7 +163,7 @@ returns c =
     let held = taken-field r (found .here .good) (which .which-field .result) (start .args .most) field (fielded .field-at .ensures) in record {
       ok = held .0;
       is = sym (l .inv .1)
-          ∙ used (rules-of s) (name-of s) (start .args .most) (rules-good edition1 (plate-of s) a) (rules-ordered edition1 (plate-of s) a) (l .started) (l .before) (l .at) below r n
+          ∙ used (rules-of s) (name-of s) (start .args .most) (rules-good (plate-of s) a) (rules-ordered (plate-of s) a) (l .started) (l .before) (l .at) below r n
           (found .taken) (found .counted) (found .some) (useOf field (c .is-forced .result)) (held .1 ∙ ap (λ (m : ℕ). take (start .args .most) (fieldOf r m)) number) (c .is-forced .ensures);
       within = λ _. omega (arith, i, below);
       behind = λ _. omega (arith, i, found .some);
@@ -182,8 +180,7 @@ returns-2 c =
     let l = at-loop .loop in
     rw (c .no-use .ensures) (record {
       ok = none-held;
-      is = sym (l .inv .1) ∙ from-end (plateAt (edition1 .width) (start .args .plate .now) .rules) (start .args .name .now) (start .args .most) (l .started)
-          (l .before) (l .at) (done .loop-test .left);
+      is = sym (l .inv .1) ∙ from-end (plateIn (start .args .plate .now) .rules) (start .args .name .now) (start .args .most) (l .started) (l .before) (l .at) (done .loop-test .left);
       within = λ e. absurd (false≢true e);
       behind = λ e. absurd (false≢true e);
     })

@@ -1,8 +1,8 @@
--- `plate::accept::accept_in` meets its contract: the seven tests of `acceptedIn` are made one by one, and any that fails decides
+-- `plate::accept::accept_in` meets its contract: the tests of `acceptedIn` are made one by one, and any that fails decides
 -- (Accepted.accept-number to accept-end); what accept_rules has noted is noted of the plate. Assumes nothing.
 use native.Mathlib.Omega.{arith}
 use borrow.Author.Needs.{needs}
-use Rattle.plate.proofs.Accepted.{accept-number, accept-reserved, accept-many-rules, accept-many-foldings, accept-bad-folding, accept-bad-rule, accept-end}
+use Rattle.plate.proofs.Accepted.{accept-number, accept-reserved, accept-few-rules, accept-many-rules, accept-many-foldings, accept-bad-folding, accept-bad-rule, accept-end}
 use Rattle.plate.proofs.Noting.{noted-all, noted-if}
 use Rattle.plate.proofs.accept.accept_in.Statement.{statement}
 use Rattle.plate.proofs.accept.accept_in.Tie as tie
@@ -20,7 +20,7 @@ returns : tie.Need-returns
 returns c =
     let number = c .before in
     let a = number .before .before .before .before .args in
-    (accept-number (a .plate .now) (a .number) (a .width) (a .most) (number .bits .result) (number .bits .ensures .0) (c .if1 .taken), tt)
+    (accept-number (a .plate .now) (a .number) (a .width) (a .least) (a .most) (number .bits .result) (number .bits .ensures .0) (c .if1 .taken), tt)
 
 add-bits : tie.Need-add-bits
 add-bits c = search needs
@@ -36,7 +36,7 @@ returns-2 c =
     let reserved = c .before in
     let number = reserved .before .before in
     let a = number .before .before .before .before .args in
-    (accept-reserved (a .plate .now) (a .number) (a .width) (a .most) (reserved .bits2 .result) (reserved .bits2 .ensures .0) (c .if2 .taken), tt)
+    (accept-reserved (a .plate .now) (a .number) (a .width) (a .least) (a .most) (reserved .bits2 .result) (reserved .bits2 .ensures .0) (c .if2 .taken), tt)
 
 size-requires : tie.Need-size-requires
 size-requires c κs = search needs
@@ -45,7 +45,13 @@ returns-3 : tie.Need-returns-3
 returns-3 c =
     let rules = c .before in
     let a = entry rules .args in
-    (accept-many-rules (a .plate .now) (a .number) (a .width) (a .most) (rules .size .result) (rules .size .ensures .0) (c .if3 .taken), tt)
+    (accept-few-rules (a .plate .now) (a .number) (a .width) (a .least) (a .most) (rules .size .result) (rules .size .ensures .0) (c .if3 .taken), tt)
+
+returns-4 : tie.Need-returns-4
+returns-4 c =
+    let rules = c .before .before in
+    let a = entry rules .args in
+    (accept-many-rules (a .plate .now) (a .number) (a .width) (a .least) (a .most) (rules .size .result) (rules .size .ensures .0) (c .if4 .taken), tt)
 
 add-size : tie.Need-add-size
 add-size c = search needs
@@ -53,12 +59,12 @@ add-size c = search needs
 size-requires-2 : tie.Need-size-requires-2
 size-requires-2 c κs = search needs
 
-returns-4 : tie.Need-returns-4
-returns-4 c =
+returns-5 : tie.Need-returns-5
+returns-5 c =
     let foldings = c .before in
-    let rules = foldings .before .before in
+    let rules = foldings .before .before .before in
     let a = entry rules .args in
-    (accept-many-foldings (a .plate .now) (a .number) (a .width) (a .most) (foldings .size2 .result) (foldings .size2 .ensures .0) (c .if4 .taken), tt)
+    (accept-many-foldings (a .plate .now) (a .number) (a .width) (a .least) (a .most) (foldings .size2 .result) (foldings .size2 .ensures .0) (c .if5 .taken), tt)
 
 accept-foldings-requires : tie.Need-accept-foldings-requires
 accept-foldings-requires c κs = search needs
@@ -73,10 +79,10 @@ accept-rules-requires : tie.Need-accept-rules-requires
 accept-rules-requires c κs =
     let folded = c .before .before .before in
     let foldings = folded .before .before in
-    let rules = foldings .before .before in
+    let rules = foldings .before .before .before in
     let start = entry rules in
-    let few = foldings .before .if3 .left in (
-      omega (arith, folded .before .if4 .left),
+    let few = foldings .before .if4 .left in (
+      omega (arith, folded .before .if5 .left),
       omega (arith, few, start .pre .1),
       record { room = omega (arith, few, start .pre .2 .room); clear = start .pre .2 .clear },
     )
@@ -93,15 +99,15 @@ same-length c = search needs
 same-length-2 : tie.Need-same-length-2
 same-length-2 c = search needs
 
-returns-5 : tie.Need-returns-5
-returns-5 c =
+returns-6 : tie.Need-returns-6
+returns-6 c =
     let noted = c .before .before in
     let ruled = noted .before .before .before .before in
     let folded = ruled .before .before .before .before in
     let foldings = folded .before .before in
-    let rules = foldings .before .before in
+    let rules = foldings .before .before .before in
     let a = entry rules .args in (
-      accept-bad-rule (a .plate .now) (a .number) (a .width) (a .most) (foldings .size2 .result) (foldings .size2 .ensures .0) (folded .accept-foldings .result)
+      accept-bad-rule (a .plate .now) (a .number) (a .width) (a .least) (a .most) (foldings .size2 .result) (foldings .size2 .ensures .0) (folded .accept-foldings .result)
           (folded .accept-foldings .ensures) (rules .size .result) (rules .size .ensures .0) (ruled .accept-rules .result) (ruled .accept-rules .ensures .0) (c .enum-told .given .1),
       tt,
     )
@@ -113,10 +119,10 @@ is-closed-requires c κs =
     let ruled = noted .before .before .before .before in
     let folded = ruled .before .before .before .before in
     let foldings = folded .before .before in
-    let rules = foldings .before .before in
+    let rules = foldings .before .before .before in
     let start = entry rules in
     let w = rw (known .end .given .1) at (ruled .accept-rules .ensures .1) in
-    omega (arith, start .pre .1, foldings .before .if3 .left, folded .before .if4 .left)
+    omega (arith, start .pre .1, foldings .before .if4 .left, folded .before .if5 .left)
 
 same-length-3 : tie.Need-same-length-3
 same-length-3 c = search needs
@@ -124,14 +130,14 @@ same-length-3 c = search needs
 same-length-4 : tie.Need-same-length-4
 same-length-4 c = search needs
 
-returns-6 : tie.Need-returns-6
-returns-6 c =
+returns-7 : tie.Need-returns-7
+returns-7 c =
     let known = c .before .before in
     let noted = known .before .before in
     let ruled = noted .before .before .before .before in
     let folded = ruled .before .before .before .before in
     let foldings = folded .before .before in
-    let rules = foldings .before .before in
+    let rules = foldings .before .before .before in
     let reserved = rules .before .before in
     let number = reserved .before .before in
     let a = entry rules .args in
@@ -140,21 +146,22 @@ returns-6 c =
     let m = foldings .size2 in
     let n = rules .size in
     let told = ruled .accept-rules .ensures in (
-      accept-end s (a .number) (a .width) (a .most) (m .result) (m .ensures .0) (folded .accept-foldings .result) (folded .accept-foldings .ensures) (n .result) (n .ensures .0)
+      accept-end s (a .number) (a .width) (a .least) (a .most) (m .result) (m .ensures .0) (folded .accept-foldings .result) (folded .accept-foldings .ensures) (n .result) (n .ensures .0)
           (ruled .accept-rules .result) (told .0) (number .bits .result) (reserved .bits2 .result) (number .bits .ensures .0) (reserved .before .if1 .left)
-          (reserved .bits2 .ensures .0) (rules .before .if2 .left) (foldings .before .if3 .left) (folded .before .if4 .left) (ruled .before .before .before .if5 .taken)
+          (reserved .bits2 .ensures .0) (rules .before .if2 .left) (foldings .before .before .if3 .left) (foldings .before .if4 .left) (folded .before .if5 .left)
+          (ruled .before .before .before .if6 .taken)
           (v .0 .0) (v .1) (c .is-closed .result) (c .is-closed .ensures),
       noted-if (c .is-closed .result) (a .width) s _ _ (noted-all (a .width) s _ _ (m .result) (n .result) (m .ensures .0) (n .ensures .0) (rw (v .1) at (told .2))),
     )
 
-returns-7 : tie.Need-returns-7
-returns-7 c =
+returns-8 : tie.Need-returns-8
+returns-8 c =
     let folded = c .before in
     let foldings = folded .before .before in
-    let rules = foldings .before .before in
+    let rules = foldings .before .before .before in
     let a = entry rules .args in (
-      accept-bad-folding (a .plate .now) (a .number) (a .width) (a .most) (foldings .size2 .result) (foldings .size2 .ensures .0) (folded .accept-foldings .result)
-          (folded .accept-foldings .ensures) (c .if5 .left),
+      accept-bad-folding (a .plate .now) (a .number) (a .width) (a .least) (a .most) (foldings .size2 .result) (foldings .size2 .ensures .0) (folded .accept-foldings .result)
+          (folded .accept-foldings .ensures) (c .if6 .left),
       tt,
     )
 
@@ -170,9 +177,10 @@ accept-in-spec =
     returns-2
     size-requires
     returns-3
+    returns-4
     add-size
     size-requires-2
-    returns-4
+    returns-5
     accept-foldings-requires
     mul-accept-rules
     add-accept-rules
@@ -181,9 +189,9 @@ accept-in-spec =
     enum-told
     same-length
     same-length-2
-    returns-5
+    returns-6
     is-closed-requires
     same-length-3
     same-length-4
-    returns-6
-    returns-7)
+    returns-7
+    returns-8)

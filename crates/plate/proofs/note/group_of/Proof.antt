@@ -1,13 +1,12 @@
 -- `plate::note::group_of` meets its contract: a noted group is there, any other lies between the rules below its character and those below the next
 -- (Halves.parted-group). Assumes nothing.
 use Prim.Native.Nat.{ℕ}
-use mathlib.Core.Path.{sym, subst}
+use mathlib.Core.Path.{subst}
 use native.Mathlib.Numerals.{add-one}
 use native.Mathlib.Omega.{arith}
 use borrow.Author.Needs.{needs}
-use Rattle.plate.specs.Plate.{edition1}
-use Rattle.plate.specs.Read.{rulesPlace, plateAt}
-use Rattle.plate.specs.Noted.{Parted, Placed}
+use Rattle.plate.specs.Read.{plateIn}
+use Rattle.plate.specs.Noted.{Parted}
 use Rattle.plate.proofs.Halves.{parted-group}
 use Rattle.plate.proofs.note.group_of.Statement.{statement}
 use Rattle.plate.proofs.note.group_of.Tie as tie
@@ -38,17 +37,8 @@ entry c =
     let tested = c .before in
     tested .before .before .before .before
 
--- The rules counted are those that have their places noted.
-placed : (c : tie.After-rule-count) →
-    let a = entry c .args in
-    Placed (a .plate .now) (rulesPlace (edition1 .width) (a .plate .now)) (c .rule-count .result) (a .places .now)
-placed c =
-    let start = entry c in
-    let s = start .args .plate .now in
-    subst (λ (n : ℕ). Placed s (rulesPlace (edition1 .width) s) n (start .args .places .now)) (sym (c .rule-count .ensures .0)) (start .pre .1 .0)
-
 rules-below-requires : tie.Need-rules-below-requires
-rules-below-requires c κs = (entry c .pre .0, placed c, c .rule-count .ensures .0)
+rules-below-requires c κs = (entry c .pre .0, entry c .pre .1 .0, c .rule-count .ensures .0)
 
 add-rules-below : tie.Need-add-rules-below
 add-rules-below c = search needs
@@ -56,14 +46,14 @@ add-rules-below c = search needs
 rules-below-requires-2 : tie.Need-rules-below-requires-2
 rules-below-requires-2 c κs =
     let counted = c .before in
-    (entry counted .pre .0, placed counted, counted .rule-count .ensures .0)
+    (entry counted .pre .0, entry counted .pre .1 .0, counted .rule-count .ensures .0)
 
 returns-2 : tie.Need-returns-2
 returns-2 c =
     let below = c .before in
     let counted = below .before in
     let a = entry counted .args in
-    let rules = plateAt (edition1 .width) (a .plate .now) .rules in
+    let rules = plateIn (a .plate .now) .rules in
     parted-group (a .c) rules (below .rules-below .result) (c .rules-below2 .result) (below .rules-below .ensures)
     (subst (λ (k : ℕ). Parted rules k (c .rules-below2 .result)) (add-one (a .c)) (c .rules-below2 .ensures))
 

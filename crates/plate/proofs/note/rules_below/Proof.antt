@@ -3,22 +3,21 @@ use Prim.Native.Nat.{ℕ, _+_, _-_, _/_, _≤_, _<_}
 use mathlib.Core.Path.{_≡_, sym, ap, _∙_}
 use native.Mathlib.Omega.{arith}
 use borrow.Author.Needs.{needs}
-use lib.ListN.{getD}
-use Rattle.plate.specs.Plate.{firstCode, edition1}
+use lib.ListN.{length, getD}
+use Rattle.plate.specs.Plate.{firstCode}
 use Rattle.plate.specs.Most.{mostRules}
-use Rattle.plate.specs.Read.{ruleAt, ruleEnd, ruleCount, rulesPlace, plateAt}
+use Rattle.plate.specs.Read.{ruleAt, plateIn}
 use Rattle.plate.specs.Stands.{Here}
 use Rattle.plate.specs.declared.Letter.{Letter}
-use Rattle.plate.proofs.Listed.{length-many}
-use Rattle.plate.proofs.Facts.{rules-few, rules-ordered}
+use Rattle.plate.proofs.Facts.{rules-counted, rules-few, rules-ordered}
 use Rattle.plate.proofs.Parts.{pattern-some, mark-start}
-use Rattle.plate.proofs.Noting.{placed-here, placed-rule}
+use Rattle.plate.proofs.Noting.{placed-room, placed-here, placed-rule}
 use Rattle.plate.proofs.Halves.{Halving, halving-start, halving-end, halving-up, halving-down}
 use Rattle.plate.proofs.note.rules_below.Statement.{statement}
 use Rattle.plate.proofs.note.rules_below.Tie as tie
 
 abbrev Inv-loop : tie.InvT-loop
-Inv-loop plate places n c low₀ high₀ low high = (low ≤ high) × (high ≤ n) × Halving (plateAt (edition1 .width) plate .rules) c low high
+Inv-loop plate places n c low₀ high₀ low high = (low ≤ high) × (high ≤ n) × Halving (plateIn plate .rules) c low high
 
 abbrev μ-loop : tie.MeasureT-loop
 μ-loop plate places n c low₀ high₀ low high = high - low
@@ -29,15 +28,13 @@ entry c = c .before .before .before .before
 
 -- There are few rules.
 few : (s : tie.Start Inv-loop μ-loop) → s .args .n ≤ mostRules
-few s = omega (arith, s .pre .2, rules-few edition1 (s .args .plate .now) (s .pre .0))
+few s = omega (arith, s .pre .2, rules-few (s .args .plate .now) (s .pre .0), rules-counted (s .args .plate .now) (s .pre .0))
 
 loop-holds : tie.Need-loop-holds Inv-loop μ-loop
 loop-holds c =
     let start = c .before .before in
     let s = start .args .plate .now in
-    let counted = start .pre .2 in
-    let long = length-many (ruleAt s) (ruleEnd s) (ruleCount (edition1 .width) s) (rulesPlace (edition1 .width) s) in
-    (omega arith, omega arith, halving-start (plateAt (edition1 .width) s .rules) (start .args .c) (start .args .n) (counted ∙ sym long))
+    (omega arith, omega arith, halving-start (plateIn s .rules) (start .args .c) (start .args .n) (start .pre .2))
 
 sub-middle : tie.Need-sub-middle Inv-loop μ-loop
 sub-middle c = omega arith
@@ -52,17 +49,18 @@ mul-here c = omega (arith, few (entry c))
 abbrev middle : tie.In-loop Inv-loop μ-loop → ℕ
 middle c = c .before .loop .low + (c .before .loop .high - c .before .loop .low) / 2
 
-counts : (c : tie.In-loop Inv-loop μ-loop) → middle c < entry c .args .n
-counts c = omega arith
+counts : (c : tie.In-loop Inv-loop μ-loop) → middle c < length (plateIn (entry c .args .plate .now) .rules)
+counts c = omega (arith, entry c .pre .2)
 
 here : (c : tie.In-loop Inv-loop μ-loop) → let a = entry c .args in Here (a .plate .now) (getD (a .places .now) (middle c) 0)
 here c =
     let start = entry c in
-    placed-here (start .args .plate .now) (start .args .places .now) (start .args .n) (start .pre .0) (start .pre .1) (start .pre .2) (middle c) (counts c)
+    placed-here (start .args .plate .now) (start .args .places .now) (start .pre .0) (start .pre .1) (middle c) (counts c)
 
 shared-slice-read-here : tie.Need-shared-slice-read-here Inv-loop μ-loop
 shared-slice-read-here c =
-    omega (arith, entry (c .before) .pre .1 .room, counts (c .before))
+    let start = entry (c .before) in
+    placed-room (start .args .plate .now) (start .args .places .now) (start .pre .0) (start .pre .1) (middle (c .before)) (counts (c .before))
 
 cast-here : tie.Need-cast-here Inv-loop μ-loop
 cast-here c = record { fits = let n = here (c .before) .near in omega arith }
@@ -87,12 +85,12 @@ loop-less c = omega arith
 -- The character that was read is its first.
 first : (c : tie.After-pattern-char Inv-loop μ-loop) →
     let s = entry (c .before .before) .args .plate .now in
-    firstCode (getD (plateAt (edition1 .width) s .rules) (middle (c .before .before)) (ruleAt s 0)) ≡ c .pattern-char .result .code
+    firstCode (getD (plateIn s .rules) (middle (c .before .before)) (ruleAt s 0)) ≡ c .pattern-char .result .code
 first c =
     let turn = c .before .before in
     let start = entry turn in
     let s = start .args .plate .now in
-    ap firstCode (placed-rule s (start .args .places .now) (start .args .n) (start .pre .0) (start .pre .1) (start .pre .2) (middle turn) (counts turn) (ruleAt s 0))
+    ap firstCode (placed-rule s (start .args .places .now) (start .pre .0) (start .pre .1) (middle turn) (counts turn) (ruleAt s 0))
     ∙ sym (ap (λ (l : Letter). l .code) (c .pattern-char .ensures .is))
 
 loop-again : tie.Need-loop-again Inv-loop μ-loop
@@ -105,7 +103,7 @@ loop-again c =
     let f = first read in (
       omega arith,
       omega arith,
-      halving-up (plateAt (edition1 .width) s .rules) (start .args .c) (l .low) (l .high) (middle turn) (l .inv .2) (ruleAt s 0) (rules-ordered edition1 s (start .pre .0))
+      halving-up (plateIn s .rules) (start .args .c) (l .low) (l .high) (middle turn) (l .inv .2) (ruleAt s 0) (rules-ordered s (start .pre .0))
           (omega arith) (omega arith),
     )
 
@@ -122,7 +120,7 @@ loop-again-2 c =
     let f = first read in (
       omega arith,
       omega arith,
-      halving-down (plateAt (edition1 .width) s .rules) (start .args .c) (l .low) (l .high) (middle turn) (l .inv .2) (ruleAt s 0) (rules-ordered edition1 s (start .pre .0))
+      halving-down (plateIn s .rules) (start .args .c) (l .low) (l .high) (middle turn) (l .inv .2) (ruleAt s 0) (rules-ordered s (start .pre .0))
           (omega arith) (omega arith) (omega arith),
     )
 
@@ -130,7 +128,7 @@ returns : tie.Need-returns Inv-loop μ-loop
 returns c =
     let start = c .before .before .before .before in
     let l = c .before .loop in
-    halving-end (plateAt (edition1 .width) (start .args .plate .now) .rules) (start .args .c) (l .low) (l .high) (l .inv .2) (c .loop-test .left)
+    halving-end (plateIn (start .args .plate .now) .rules) (start .args .c) (l .low) (l .high) (l .inv .2) (c .loop-test .left)
 
 pub rules-below-spec : {M : Type 1} → statement M
 rules-below-spec =
