@@ -20,7 +20,7 @@ use Rattle.chars.specs.declared.Char.the-variants.{One, Bad, End}
 use Rattle.chars.specs.declared.Checked.{Checked}
 use Rattle.chars.specs.declared.Checked.the-variants.{BadAt, Text}
 use Rattle.chars.proofs.Texts.{kind, text-front}
-use Rattle.chars.proofs.Exact.{Front, front-one, decoded-one}
+use Rattle.chars.proofs.Exact.{Decoded, decoded-any, decoded-one}
 
 -- What an answer says of the bytes.
 abbrev pub Says : List ℕ → Checked → Type 0
@@ -97,7 +97,7 @@ bad at holds (x ∷ xs) e = rw e (ap BadAt (sym (add-zero at)))
 end : (at : ℕ) (holds : Bool) (s : List ℕ) → charOf s ≡ End → Text holds ≡ checkedFrom at holds s
 unfolding textFrom
 end at holds [] e = ap Text (sym (or-false holds))
-end at holds (x ∷ xs) e = absurd (omega (arith, subst (Front (x ∷ xs)) e (front-one (x ∷ xs))))
+end at holds (x ∷ xs) e = absurd (omega (arith, subst (Decoded (x ∷ xs)) e (decoded-any (x ∷ xs))))
 
 -- ---- one turn, and the two ways out
 

@@ -151,22 +151,22 @@ encoded-chars (c ∷ cs) h =
 -- ---- what decodes was encoded
 
 -- What holds of an answer on s: a character is a scalar value, and its bytes stand in front of s; only of no bytes is the answer that they end.
-abbrev pub Front : List ℕ → Char → Type 0
-Front s (One c w) = (scalar c ≡ true) × (take w s ≡ bytesOf c) × (w ≡ length (bytesOf c)) × (w ≤ length s)
-Front s Bad = 0 < length s
-Front s End = length s ≡ 0
+abbrev pub Decoded : List ℕ → Char → Type 0
+Decoded s (One c w) = (scalar c ≡ true) × (take w s ≡ bytesOf c) × (w ≡ length (bytesOf c)) × (w ≤ length s)
+Decoded s Bad = 0 < length s
+Decoded s End = length s ≡ 0
 
 -- The bytes in front, where they are those of a scalar value.
-front : (s : List ℕ) (c w : ℕ) (l : List ℕ) → scalar c ≡ true → bytesOf c ≡ l → take w s ≡ l → w ≡ length l → w ≤ length s → Front s (One c w)
-front s c w l h b e n m = (h, e ∙ sym b, n ∙ sym (ap (λ (x : List ℕ). length x) b), m)
+decoded-is : (s : List ℕ) (c w : ℕ) (l : List ℕ) → scalar c ≡ true → bytesOf c ≡ l → take w s ≡ l → w ≡ length l → w ≤ length s → Decoded s (One c w)
+decoded-is s c w l h b e n m = (h, e ∙ sym b, n ∙ sym (ap (λ (x : List ℕ). length x) b), m)
 
 -- A tail byte, from its last six bits.
 tail-of : (b d : ℕ) → tail b ≡ true → d ≡ b % 64 → b ≡ 0x80 + d
 tail-of b d t e = let h = between-true 0x80 0xBF b t in omega arith
 
-front-2 : (a : ℕ) (s : List ℕ) → (0xC0 ≤ a) × (a ≤ 0xDF) → Front (a ∷ s) (two a s)
-front-2 a [] h = omega arith
-front-2 a (b ∷ s) h = by-test (Front (a ∷ b ∷ s)) (tail b && leb 0x80 c) (One c 2) Bad go (λ e. omega arith)
+decoded-2 : (a : ℕ) (s : List ℕ) → (0xC0 ≤ a) × (a ≤ 0xDF) → Decoded (a ∷ s) (two a s)
+decoded-2 a [] h = omega arith
+decoded-2 a (b ∷ s) h = by-test (Decoded (a ∷ b ∷ s)) (tail b && leb 0x80 c) (One c 2) Bad go (λ e. omega arith)
   where
     c : ℕ
     c = a % 32 * 64 + b % 64
@@ -177,17 +177,17 @@ front-2 a (b ∷ s) h = by-test (Front (a ∷ b ∷ s)) (tail b && leb 0x80 c) (
     second : c % 64 ≡ b % 64
     second = omega arith
 
-    go : tail b && leb 0x80 c ≡ true → Front (a ∷ b ∷ s) (One c 2)
+    go : tail b && leb 0x80 c ≡ true → Decoded (a ∷ b ∷ s) (One c 2)
     go e =
         let t = and-true (tail b) (leb 0x80 c) e in
-        front (a ∷ b ∷ s) c 2 _ (low-scalar c (omega arith)) (two-bytes c (leb-true 0x80 c (t .1)) (omega arith))
+        decoded-is (a ∷ b ∷ s) c 2 _ (low-scalar c (omega arith)) (two-bytes c (leb-true 0x80 c (t .1)) (omega arith))
         (λ i. first i ∷ tail-of b (c % 64) (t .0) second i ∷ []) refl (omega arith)
 
-front-3 : (a : ℕ) (s : List ℕ) → (0xE0 ≤ a) × (a ≤ 0xEF) → Front (a ∷ s) (three a s)
-front-3 a [] h = omega arith
-front-3 a (b ∷ []) h = omega arith
-front-3 a (b ∷ b′ ∷ s) h =
-    by-test (Front (a ∷ b ∷ b′ ∷ s)) (tail b && (tail b′ && (leb 0x800 c && scalar c))) (One c 3) Bad go (λ e. omega arith)
+decoded-3 : (a : ℕ) (s : List ℕ) → (0xE0 ≤ a) × (a ≤ 0xEF) → Decoded (a ∷ s) (three a s)
+decoded-3 a [] h = omega arith
+decoded-3 a (b ∷ []) h = omega arith
+decoded-3 a (b ∷ b′ ∷ s) h =
+    by-test (Decoded (a ∷ b ∷ b′ ∷ s)) (tail b && (tail b′ && (leb 0x800 c && scalar c))) (One c 3) Bad go (λ e. omega arith)
   where
     c : ℕ
     c = a % 16 * 4096 + b % 64 * 64 + b′ % 64
@@ -201,20 +201,20 @@ front-3 a (b ∷ b′ ∷ s) h =
     third : c % 64 ≡ b′ % 64
     third = omega arith
 
-    go : tail b && (tail b′ && (leb 0x800 c && scalar c)) ≡ true → Front (a ∷ b ∷ b′ ∷ s) (One c 3)
+    go : tail b && (tail b′ && (leb 0x800 c && scalar c)) ≡ true → Decoded (a ∷ b ∷ b′ ∷ s) (One c 3)
     go e =
         let t = and-true (tail b) (tail b′ && (leb 0x800 c && scalar c)) e in
         let u = and-true (tail b′) (leb 0x800 c && scalar c) (t .1) in
         let v = and-true (leb 0x800 c) (scalar c) (u .1) in
-        front (a ∷ b ∷ b′ ∷ s) c 3 _ (v .1) (three-bytes c (leb-true 0x800 c (v .0)) (omega arith))
+        decoded-is (a ∷ b ∷ b′ ∷ s) c 3 _ (v .1) (three-bytes c (leb-true 0x800 c (v .0)) (omega arith))
         (λ i. first i ∷ tail-of b (c / 64 % 64) (t .0) second i ∷ tail-of b′ (c % 64) (u .0) third i ∷ []) refl (omega arith)
 
-front-4 : (a : ℕ) (s : List ℕ) → (0xF0 ≤ a) × (a ≤ 0xF7) → Front (a ∷ s) (four a s)
-front-4 a [] h = omega arith
-front-4 a (b ∷ []) h = omega arith
-front-4 a (b ∷ b′ ∷ []) h = omega arith
-front-4 a (b ∷ b′ ∷ b″ ∷ s) h =
-    by-test (Front (a ∷ b ∷ b′ ∷ b″ ∷ s)) (tail b && (tail b′ && (tail b″ && (leb 0x10000 c && scalar c)))) (One c 4) Bad go (λ e. omega arith)
+decoded-4 : (a : ℕ) (s : List ℕ) → (0xF0 ≤ a) × (a ≤ 0xF7) → Decoded (a ∷ s) (four a s)
+decoded-4 a [] h = omega arith
+decoded-4 a (b ∷ []) h = omega arith
+decoded-4 a (b ∷ b′ ∷ []) h = omega arith
+decoded-4 a (b ∷ b′ ∷ b″ ∷ s) h =
+    by-test (Decoded (a ∷ b ∷ b′ ∷ b″ ∷ s)) (tail b && (tail b′ && (tail b″ && (leb 0x10000 c && scalar c)))) (One c 4) Bad go (λ e. omega arith)
   where
     c : ℕ
     c = a % 8 * 262144 + b % 64 * 4096 + b′ % 64 * 64 + b″ % 64
@@ -231,29 +231,29 @@ front-4 a (b ∷ b′ ∷ b″ ∷ s) h =
     fourth : c % 64 ≡ b″ % 64
     fourth = omega arith
 
-    go : tail b && (tail b′ && (tail b″ && (leb 0x10000 c && scalar c))) ≡ true → Front (a ∷ b ∷ b′ ∷ b″ ∷ s) (One c 4)
+    go : tail b && (tail b′ && (tail b″ && (leb 0x10000 c && scalar c))) ≡ true → Decoded (a ∷ b ∷ b′ ∷ b″ ∷ s) (One c 4)
     go e =
         let t = and-true (tail b) (tail b′ && (tail b″ && (leb 0x10000 c && scalar c))) e in
         let u = and-true (tail b′) (tail b″ && (leb 0x10000 c && scalar c)) (t .1) in
         let v = and-true (tail b″) (leb 0x10000 c && scalar c) (u .1) in
         let w = and-true (leb 0x10000 c) (scalar c) (v .1) in
-        front (a ∷ b ∷ b′ ∷ b″ ∷ s) c 4 _ (w .1) (four-bytes c (leb-true 0x10000 c (w .0)))
+        decoded-is (a ∷ b ∷ b′ ∷ b″ ∷ s) c 4 _ (w .1) (four-bytes c (leb-true 0x10000 c (w .0)))
         (λ i. first i ∷ tail-of b (c / 4096 % 64) (t .0) second i ∷ tail-of b′ (c / 64 % 64) (u .0) third i ∷ tail-of b″ (c % 64) (v .0) fourth i ∷ []) refl (omega arith)
 
 -- What stands in front of any bytes.
-pub front-one : (s : List ℕ) → Front s (charOf s)
-front-one [] = refl
-front-one (a ∷ s) =
-    by-test (Front (a ∷ s)) (leb a 0x7F) _ _
-    (λ e. let h = leb-true a 0x7F e in front (a ∷ s) a 1 _ (low-scalar a (omega arith)) (one-byte a h) refl refl (omega arith))
+pub decoded-any : (s : List ℕ) → Decoded s (charOf s)
+decoded-any [] = refl
+decoded-any (a ∷ s) =
+    by-test (Decoded (a ∷ s)) (leb a 0x7F) _ _
+    (λ e. let h = leb-true a 0x7F e in decoded-is (a ∷ s) a 1 _ (low-scalar a (omega arith)) (one-byte a h) refl refl (omega arith))
     λ e.
-    by-test (Front (a ∷ s)) (between 0xC0 0xDF a) (two a s) _ (λ f. front-2 a s (between-true 0xC0 0xDF a f)) λ f.
-    by-test (Front (a ∷ s)) (between 0xE0 0xEF a) (three a s) _ (λ g. front-3 a s (between-true 0xE0 0xEF a g)) λ g.
-    by-test (Front (a ∷ s)) (between 0xF0 0xF7 a) (four a s) Bad (λ k. front-4 a s (between-true 0xF0 0xF7 a k)) (λ k. omega arith)
+    by-test (Decoded (a ∷ s)) (between 0xC0 0xDF a) (two a s) _ (λ f. decoded-2 a s (between-true 0xC0 0xDF a f)) λ f.
+    by-test (Decoded (a ∷ s)) (between 0xE0 0xEF a) (three a s) _ (λ g. decoded-3 a s (between-true 0xE0 0xEF a g)) λ g.
+    by-test (Decoded (a ∷ s)) (between 0xF0 0xF7 a) (four a s) Bad (λ k. decoded-4 a s (between-true 0xF0 0xF7 a k)) (λ k. omega arith)
 
 -- One character: what is decoded is a scalar value, and the bytes it was decoded from are its bytes.
-pub decoded-one : (s : List ℕ) (c w : ℕ) → charOf s ≡ One c w → Front s (One c w)
-decoded-one s c w e = subst (Front s) e (front-one s)
+pub decoded-one : (s : List ℕ) (c w : ℕ) → charOf s ≡ One c w → Decoded s (One c w)
+decoded-one s c w e = subst (Decoded s) e (decoded-any s)
 
 -- The bytes behind the first k, where they are UTF-8.
 decoded : (k : ℕ) (s : List ℕ) → textFrom k s ≡ true → (drop k s ≡ bytesOfAll (charsFrom k s)) × (every scalar (charsFrom k s) ≡ true)
@@ -261,12 +261,12 @@ unfolding textFrom charsFrom
 decoded zero [] t = (refl, refl)
 decoded (suc k) [] t = (refl, refl)
 decoded (suc k) (x ∷ xs) t = decoded k xs t
-decoded zero (x ∷ xs) t = go (charOf (x ∷ xs)) (front-one (x ∷ xs)) t (λ k. decoded k xs)
+decoded zero (x ∷ xs) t = go (charOf (x ∷ xs)) (decoded-any (x ∷ xs)) t (λ k. decoded k xs)
   where
     Behind : ℕ → Type 0
     Behind k = textFrom k xs ≡ true → (drop k xs ≡ bytesOfAll (charsFrom k xs)) × (every scalar (charsFrom k xs) ≡ true)
 
-    go : (r : Char) → Front (x ∷ xs) r → isOne r && textFrom (widthOf r - 1) xs ≡ true → ((k : ℕ) → Behind k)
+    go : (r : Char) → Decoded (x ∷ xs) r → isOne r && textFrom (widthOf r - 1) xs ≡ true → ((k : ℕ) → Behind k)
         → (x ∷ xs ≡ bytesOf (codeOf r) ++ bytesOfAll (charsFrom (widthOf r - 1) xs)) × (scalar (codeOf r) && every scalar (charsFrom (widthOf r - 1) xs) ≡ true)
     go Bad f u below = absurd (false≢true u)
     go End f u below = absurd (false≢true u)

@@ -18,7 +18,7 @@ use Rattle.chars.specs.Utf8.{scalar, bytesOf, bytesOfAll, charOf, isOne,
 use Rattle.chars.specs.declared.Char.{Char}
 use Rattle.chars.specs.declared.Char.the-variants.{One, Bad, End}
 use Rattle.chars.proofs.Texts.{kind, text-front, chars-front}
-use Rattle.chars.proofs.Exact.{Front, bytes-count, encoded-one, encoded-text, encoded-chars, front-one, decoded-one, decoded-text, decoded-chars}
+use Rattle.chars.proofs.Exact.{Decoded, bytes-count, encoded-one, encoded-text, encoded-chars, decoded-any, decoded-one, decoded-text, decoded-chars}
 use Rattle.chars.proofs.Places as places
 use Rattle.chars.proofs.Checks.{sound-front}
 
@@ -99,9 +99,9 @@ unfolding textFrom
 broken zero [] t = absurd (false≢true (sym t))
 broken (suc k) [] t = absurd (false≢true (sym t))
 broken (suc k) (x ∷ xs) t = broken k xs t
-broken zero (x ∷ xs) t = go (charOf (x ∷ xs)) refl (front-one (x ∷ xs)) t (λ k. broken k xs)
+broken zero (x ∷ xs) t = go (charOf (x ∷ xs)) refl (decoded-any (x ∷ xs)) t (λ k. broken k xs)
   where
-    go : (r : Char) → charOf (x ∷ xs) ≡ r → Front (x ∷ xs) r → isOne r && textFrom (widthOf r - 1) xs ≡ false → ((k : ℕ) → textFrom k xs ≡ false → Broken (drop k xs))
+    go : (r : Char) → charOf (x ∷ xs) ≡ r → Decoded (x ∷ xs) r → isOne r && textFrom (widthOf r - 1) xs ≡ false → ((k : ℕ) → textFrom k xs ≡ false → Broken (drop k xs))
         → Broken (x ∷ xs)
     go Bad e f u below = record { front = []; rest = x ∷ xs; joined = refl; scalars = refl; bad = e }
     go End e f u below = absurd (omega (arith, f))

@@ -12,7 +12,7 @@ use Rattle.chars.specs.Utf8.{tail, two, three, four, charOf}
 use Rattle.chars.specs.Answers.{Reaches}
 use Rattle.chars.specs.declared.Char.{Char}
 use Rattle.chars.specs.declared.Char.the-variants.{One, Bad, End}
-use Rattle.chars.proofs.Exact.{Front, front-one, bytes-count, scalar-most}
+use Rattle.chars.proofs.Exact.{Decoded, decoded-any, bytes-count, scalar-most}
 
 -- The byte behind the last is read as 0, which is no tail byte.
 three-numbers : (a : ℕ) (s : List ℕ) → three a (getD s 0 0 ∷ getD s 1 0 ∷ getD s 2 0 ∷ []) ≡ three a s
@@ -51,13 +51,13 @@ behind s at h = sym (ap charOf (drop-of-length-le s h))
 
 -- What stands at a place lies within the bytes.
 pub reaches : (s : List ℕ) (at : ℕ) → at ≤ length s → Reaches at (length s) (charOf (drop at s))
-reaches s at h = go (charOf (drop at s)) (front-one (drop at s)) (length-drop at s)
+reaches s at h = go (charOf (drop at s)) (decoded-any (drop at s)) (length-drop at s)
   where
-    go : (r : Char) → Front (drop at s) r → length (drop at s) ≡ length s - at → Reaches at (length s) r
+    go : (r : Char) → Decoded (drop at s) r → length (drop at s) ≡ length s - at → Reaches at (length s) r
     go (One c w) f n =
         let m = bytes-count c in
         let k = scalar-most c (f .0) in
         let e = f .2 in
-        let l = f .3 in (omega arith, omega arith, omega arith, omega arith, f .0)
+        let l = f .3 in record { some = omega arith; few = omega arith; within = omega arith; small = omega arith; is = f .0 }
     go Bad f n = omega arith
     go End f n = omega arith

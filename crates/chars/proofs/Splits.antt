@@ -15,7 +15,7 @@ use Rattle.chars.specs.Utf8.{tail, two, three, four, charOf, isOne, widt
 use Rattle.chars.specs.declared.Char.{Char}
 use Rattle.chars.specs.declared.Char.the-variants.{One, Bad, End}
 use Rattle.chars.proofs.Texts.{text-front}
-use Rattle.chars.proofs.Exact.{Front, front-one, decoded-one}
+use Rattle.chars.proofs.Exact.{Decoded, decoded-any, decoded-one}
 
 -- ---- an ASCII byte behind some bytes changes nothing of the character in front of them
 
@@ -72,9 +72,9 @@ module _ (q : ℕ) (low : q < 0x80) (y : List ℕ) where
   split zero [] h = refl
   split (suc k) [] h = absurd (omega arith)
   split (suc k) (a ∷ x) h = split k x (omega arith)
-  split zero (a ∷ x) h = rw (char-before a x) (go (charOf (a ∷ x)) (front-one (a ∷ x)) (λ k. split k x))
+  split zero (a ∷ x) h = rw (char-before a x) (go (charOf (a ∷ x)) (decoded-any (a ∷ x)) (λ k. split k x))
     where
-      go : (r : Char) → Front (a ∷ x) r → ((k : ℕ) → k ≤ length x → textFrom k (x ++ (q ∷ y)) ≡ textFrom k x && isText (q ∷ y))
+      go : (r : Char) → Decoded (a ∷ x) r → ((k : ℕ) → k ≤ length x → textFrom k (x ++ (q ∷ y)) ≡ textFrom k x && isText (q ∷ y))
           → isOne r && textFrom (widthOf r - 1) (x ++ (q ∷ y)) ≡ (isOne r && textFrom (widthOf r - 1) x) && isText (q ∷ y)
       go (One c w) f below = below (w - 1) (omega (arith, f .3))
       go Bad f below = refl

@@ -15,9 +15,17 @@ use Rattle.chars.specs.declared.Checked.the-variants.{BadAt, Text}
 use Rattle.chars.specs.declared.Next.{Next}
 use Rattle.chars.specs.declared.Next.the-variants as Next
 
+-- A character c of w bytes at a place of n bytes.
+pub record OneWithin (at n c w : ℕ) : Type 0 where
+  pub some : 1 ≤ w
+  pub few : w ≤ 4
+  pub within : at + w ≤ n
+  pub small : c < 0x110000
+  pub is : scalar c ≡ true
+
 -- The bounds of what stands at a place of n bytes: a character lies within them, a bad sequence begins within them, and the end is behind them.
 abbrev pub Reaches : ℕ → ℕ → Char → Type 0
-Reaches at n (One c w) = (1 ≤ w) × (w ≤ 4) × (at + w ≤ n) × (c < 0x110000) × (scalar c ≡ true)
+Reaches at n (One c w) = OneWithin at n c w
 Reaches at n Bad = at < n
 Reaches at n End = n ≤ at
 

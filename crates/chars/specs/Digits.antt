@@ -9,6 +9,10 @@ use Rattle.laws.specs.Lists.{between, every}
 abbrev pub digit : ℕ → Bool
 digit c = between 48 57 c
 
+-- the most digits of an alternative
+abbrev pub mostDigits : ℕ
+mostDigits = 6
+
 -- "0 to 6 ASCII digits"
 abbrev pub isAlternative : List ℕ → Bool
-isAlternative a = leb (length a) 6 && every digit a
+isAlternative a = leb (length a) mostDigits && every digit a

@@ -42,7 +42,7 @@ fn byte(s: &[u8], k: usize) -> u32
 }
 
 // The character c of w bytes; bad where fewer bytes can hold it, below `least`, and where it is no scalar value.
-fn held(least: u32, c: u32, w: usize) -> Char
+fn char_of_width(least: u32, c: u32, w: usize) -> Char
     ensures { λ r. ⌜ r ≡ cond (leb least c && scalar c) (One c w) Bad ⌝ }
 {
     if least <= c {
@@ -71,7 +71,7 @@ fn three_bytes(a: u32, b: u32, b2: u32) -> Char
 {
     if is_tail(b) {
         if is_tail(b2) {
-            return held(0x800, a % 16 * 4096 + b % 64 * 64 + b2 % 64, 3);
+            return char_of_width(0x800, a % 16 * 4096 + b % 64 * 64 + b2 % 64, 3);
         }
     }
     Char::Bad
@@ -83,7 +83,7 @@ fn four_bytes(a: u32, b: u32, b2: u32, b3: u32) -> Char
     if is_tail(b) {
         if is_tail(b2) {
             if is_tail(b3) {
-                return held(
+                return char_of_width(
                     0x10000,
                     a % 8 * 262144 + b % 64 * 4096 + b2 % 64 * 64 + b3 % 64,
                     4,

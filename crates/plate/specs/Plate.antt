@@ -7,6 +7,7 @@ use lib.ListN.{length}
 use Rattle.laws.specs.Lists.{between, every}
 use Rattle.chars.specs.Utf8.{charOf, codeOf, isText, scalar}
 use Rattle.chars.specs.Digits.{isAlternative}
+use Rattle.chars.specs.Digits as digits
 
 pub record Folding : Type 0 where
   pub key : ℕ
@@ -52,7 +53,7 @@ abbrev pub mostAlternatives : ℕ
 mostAlternatives = 8
 
 abbrev pub mostDigits : ℕ
-mostDigits = 6
+mostDigits = digits.mostDigits
 
 abbrev pub mostFoldings : ℕ
 mostFoldings = 128

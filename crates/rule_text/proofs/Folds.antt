@@ -45,7 +45,7 @@ module _ (l : List ℕ) where
         folds e = rw (e1, eq-eqb _ _ q, e2, e)
 
 pub letter-reads : (at n c w : ℕ) → Reaches at n (One c w) → Reads at n (S.Is c (at + w))
-letter-reads at n c w r = let a = r .0 in record { some = omega arith; within = r .2; small = r .3; is = r .4 }
+letter-reads at n c w r = let a = r .some in record { some = omega arith; within = r .within; small = r .small; is = r .is }
 
 pub folds-pairs : {n key m target k next : ℕ} → Reads 0 n (S.Is key m) → Reads (m + 1) n (S.Is target k) → From k n (R.To next) → Pairs n (Folds key target next)
 folds-pairs x y e =

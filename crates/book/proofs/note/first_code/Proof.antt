@@ -21,7 +21,7 @@ returns : tie.Need-returns
 returns c =
     let v = c .before .c .given in
     let w = rw (v .1) at (c .before .before .before .char-at .ensures .1) in
-    (ap codeOf (sym (v .1) ∙ c .before .before .before .char-at .ensures .0), w .3)
+    (ap codeOf (sym (v .1) ∙ c .before .before .before .char-at .ensures .0), w .small)
 
 returns-2 : tie.Need-returns-2
 returns-2 c = search needs

@@ -26,10 +26,15 @@ enum-known-c : tie.Need-enum-known-c Inv-loop μ-loop
 enum-known-c c = search needs
 
 add-at : tie.Need-add-at Inv-loop μ-loop
-add-at c = let w = rw (c .before .c .given .1) at (c .before .before .before .char-at .ensures .1) in omega arith
+add-at c =
+    let w = rw (c .before .c .given .1) at (c .before .before .before .char-at .ensures .1) in
+    let fits = w .within in omega arith
 
 loop-less : tie.Need-loop-less Inv-loop μ-loop
-loop-less c = let w = rw (c .before .before .c .given .1) at (c .before .before .before .before .char-at .ensures .1) in omega arith
+loop-less c =
+    let w = rw (c .before .before .c .given .1) at (c .before .before .before .before .char-at .ensures .1) in
+    let one = w .some in
+    let fits = w .within in omega arith
 
 loop-again : tie.Need-loop-again Inv-loop μ-loop
 loop-again c =
@@ -40,10 +45,13 @@ loop-again c =
     let r = at-char-at .char-at in
     let f = c .before .before .c .given in
     let w = rw (f .1) at (r .ensures .1) in
-    turn-zero (at-entry .args .s .now) (l .at) (l .holds) (r .result) (r .ensures .0) (f .0 .0) (f .0 .1 .0) (f .1) (w .0) (c .if1 .taken) ∙ l .inv
+    turn-zero (at-entry .args .s .now) (l .at) (l .holds) (r .result) (r .ensures .0) (f .0 .0) (f .0 .1 .0) (f .1) (w .some) (c .if1 .taken) ∙ l .inv
 
 loop-less-2 : tie.Need-loop-less-2 Inv-loop μ-loop
-loop-less-2 c = let w = rw (c .before .before .c .given .1) at (c .before .before .before .before .char-at .ensures .1) in omega arith
+loop-less-2 c =
+    let w = rw (c .before .before .c .given .1) at (c .before .before .before .before .char-at .ensures .1) in
+    let one = w .some in
+    let fits = w .within in omega arith
 
 loop-again-2 : tie.Need-loop-again-2 Inv-loop μ-loop
 loop-again-2 c =
@@ -54,7 +62,7 @@ loop-again-2 c =
     let r = at-char-at .char-at in
     let f = c .before .before .c .given in
     let w = rw (f .1) at (r .ensures .1) in
-    turn-other (at-entry .args .s .now) (l .at) (l .holds) (r .result) (r .ensures .0) (f .0 .0) (f .0 .1 .0) (f .1) (w .0) (c .if1 .left) ∙ l .inv
+    turn-other (at-entry .args .s .now) (l .at) (l .holds) (r .result) (r .ensures .0) (f .0 .0) (f .0 .1 .0) (f .1) (w .some) (c .if1 .left) ∙ l .inv
 
 enum-told : tie.Need-enum-told Inv-loop μ-loop
 enum-told c = search needs

@@ -1,4 +1,4 @@
--- `utf8::four_bytes` meets its contract. Each way out has passed or failed the tests of the definition, in its order; `held` has the last two. Assumes nothing.
+-- `utf8::four_bytes` meets its contract. Each way out has passed or failed the tests of the definition, in its order; `char_of_width` has the last two. Assumes nothing.
 use Rattle.laws.proofs.Tests.{told}
 use borrow.Author.Needs.{needs}
 use Rattle.chars.proofs.utf8.four_bytes.Statement.{statement}
@@ -13,26 +13,26 @@ is-tail-requires-2 c κs = search needs
 is-tail-requires-3 : tie.Need-is-tail-requires-3
 is-tail-requires-3 c κs = search needs
 
-mul-held : tie.Need-mul-held
-mul-held c = search needs
+mul-char-of-width : tie.Need-mul-char-of-width
+mul-char-of-width c = search needs
 
-mul-held-2 : tie.Need-mul-held-2
-mul-held-2 c = search needs
+mul-char-of-width-2 : tie.Need-mul-char-of-width-2
+mul-char-of-width-2 c = search needs
 
-add-held : tie.Need-add-held
-add-held c = search needs
+add-char-of-width : tie.Need-add-char-of-width
+add-char-of-width c = search needs
 
-mul-held-3 : tie.Need-mul-held-3
-mul-held-3 c = search needs
+mul-char-of-width-3 : tie.Need-mul-char-of-width-3
+mul-char-of-width-3 c = search needs
 
-add-held-2 : tie.Need-add-held-2
-add-held-2 c = search needs
+add-char-of-width-2 : tie.Need-add-char-of-width-2
+add-char-of-width-2 c = search needs
 
-add-held-3 : tie.Need-add-held-3
-add-held-3 c = search needs
+add-char-of-width-3 : tie.Need-add-char-of-width-3
+add-char-of-width-3 c = search needs
 
-held-requires : tie.Need-held-requires
-held-requires c κs = search needs
+char-of-width-requires : tie.Need-char-of-width-requires
+char-of-width-requires c κs = search needs
 
 returns : tie.Need-returns
 returns c =
@@ -44,7 +44,7 @@ returns c =
       told (at-is-tail2 .is-tail2 .ensures) (c .before .before .before .if2 .taken),
       told (c .before .before .is-tail3 .ensures) (c .before .if3 .taken),
     )
-    (c .held .ensures)
+    (c .char-of-width .ensures)
 
 returns-2 : tie.Need-returns-2
 returns-2 c =
@@ -69,13 +69,13 @@ four-bytes-spec =
     is-tail-requires
     is-tail-requires-2
     is-tail-requires-3
-    mul-held
-    mul-held-2
-    add-held
-    mul-held-3
-    add-held-2
-    add-held-3
-    held-requires
+    mul-char-of-width
+    mul-char-of-width-2
+    add-char-of-width
+    mul-char-of-width-3
+    add-char-of-width-2
+    add-char-of-width-3
+    char-of-width-requires
     returns
     returns-2
     returns-3

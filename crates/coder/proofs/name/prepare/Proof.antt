@@ -29,7 +29,7 @@ wide : (k : tie.After-known-told Inv-loop μ-loop)
     let turn = k .before .before .before .before in
     let entry = turn .before .before .before .before in
     (1 ≤ w) × (turn .loop .at + w ≤ length (entry .args .name .now))
-wide k = let r = rw (k .before .c .given .1) at (k .before .before .before .char-at .ensures .1) in (r .0, r .2)
+wide k = let r = rw (k .before .c .given .1) at (k .before .before .before .char-at .ensures .1) in (r .some, r .within)
 
 -- So there is room for it.
 few : (k : tie.After-known-told Inv-loop μ-loop) → k .before .before .before .before .loop .count < 256

@@ -33,7 +33,7 @@ found : (c : tie.After-known-told) → Reaches (place c) (length (text c)) (One 
 found c = known (Reaches (place c) (length (text c))) (c .before .before .before .char-at .ensures) (c .before .c .given .1) .1
 
 add-t7 : tie.Need-add-t7
-add-t7 c = let w = found c .2 in omega arith
+add-t7 c = let w = found c .within in omega arith
 
 enum-told : tie.Need-enum-told
 enum-told c = search needs
