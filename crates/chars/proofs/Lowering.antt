@@ -9,19 +9,19 @@ use lib.Dec.{ltb, eqb}
 use lib.ListN.{getD}
 use Rattle.laws.proofs.Tests.{and-true, and-right-false, above-between}
 use Rattle.laws.proofs.Table.{at}
-use Rattle.chars.specs.Letters.{white, capital, evenCapital, oddCapital, lowerOf}
+use Rattle.chars.specs.Letters.{latinEnd, white, capital, evenCapital, oddCapital, lowerOf}
 use Rattle.chars.specs.Table.{table}
 
 -- The test, of the character c and its entry x.
 right : ℕ → ℕ → Bool
-right c x = eqb x (lowerOf c) && (ltb x 384 && (eqb (lowerOf x) x && (not (white c) || eqb x c)))
+right c x = eqb x (lowerOf c) && (ltb x latinEnd && (eqb (lowerOf x) x && (not (white c) || eqb x c)))
 
-right-at : (c : ℕ) → c < 384 → right c (getD table c 0) ≡ true
+right-at : (c : ℕ) → c < latinEnd → right c (getD table c 0) ≡ true
 unfolding table right lowerOf capital evenCapital oddCapital white
 right-at c h = at right table refl c h
 
 -- From U+0180 on each is its own lowercase.
-pub high : (c : ℕ) → 384 ≤ c → lowerOf c ≡ c
+pub high : (c : ℕ) → latinEnd ≤ c → lowerOf c ≡ c
 unfolding lowerOf capital evenCapital oddCapital
 high c h =
     simp (
@@ -39,32 +39,32 @@ high c h =
       ne-eqb c 0x178 (λ e. omega arith),
     )
 
-module _ (c : ℕ) (h : c < 384) where
+module _ (c : ℕ) (h : c < latinEnd) where
   -- what the test says of the entry of c
-  facts : (getD table c 0 ≡ lowerOf c) × (getD table c 0 < 384) × (lowerOf (getD table c 0) ≡ getD table c 0) × (not (white c) || eqb (getD table c 0) c ≡ true)
+  facts : (getD table c 0 ≡ lowerOf c) × (getD table c 0 < latinEnd) × (lowerOf (getD table c 0) ≡ getD table c 0) × (not (white c) || eqb (getD table c 0) c ≡ true)
   unfolding right
   facts =
       let x = getD table c 0 in
       let kept = not (white c) || eqb x c in
-      let t = and-true (eqb x (lowerOf c)) (ltb x 384 && (eqb (lowerOf x) x && kept)) (right-at c h) in
-      let u = and-true (ltb x 384) (eqb (lowerOf x) x && kept) (t .1) in
+      let t = and-true (eqb x (lowerOf c)) (ltb x latinEnd && (eqb (lowerOf x) x && kept)) (right-at c h) in
+      let u = and-true (ltb x latinEnd) (eqb (lowerOf x) x && kept) (t .1) in
       let v = and-true (eqb (lowerOf x) x) kept (u .1) in
-      (eqb-true x (lowerOf c) (t .0), ltb-true x 384 (u .0), eqb-true (lowerOf x) x (v .0), v .1)
+      (eqb-true x (lowerOf c) (t .0), ltb-true x latinEnd (u .0), eqb-true (lowerOf x) x (v .0), v .1)
 
   -- The entry is the lowercase of its place.
   pub entry : getD table c 0 ≡ lowerOf c
   entry = facts .0
 
   -- The lowercase of a character in the table is in the table.
-  pub small : lowerOf c < 384
-  small = subst (λ (x : ℕ). x < 384) (facts .0) (facts .1)
+  pub small : lowerOf c < latinEnd
+  small = subst (λ (x : ℕ). x < latinEnd) (facts .0) (facts .1)
 
-by-place : (c : ℕ) (P : Type 0) → (c < 384 → P) → (384 ≤ c → P) → P
-by-place c P f g = go (ltb c 384) refl
+by-place : (c : ℕ) (P : Type 0) → (c < latinEnd → P) → (latinEnd ≤ c → P) → P
+by-place c P f g = go (ltb c latinEnd) refl
   where
-    go : (t : Bool) → ltb c 384 ≡ t → P
-    go true e = f (ltb-true c 384 e)
-    go false e = g (ltb-false c 384 e)
+    go : (t : Bool) → ltb c latinEnd ≡ t → P
+    go true e = f (ltb-true c latinEnd e)
+    go false e = g (ltb-false c latinEnd e)
 
 -- Lowering twice equals once.
 pub twice : (c : ℕ) → lowerOf (lowerOf c) ≡ lowerOf c

@@ -7,7 +7,7 @@ use lib.ListN.{length, drop}
 use Rattle.laws.specs.Lists.{until, countOf}
 use Rattle.laws.proofs.Only.{only}
 use Rattle.chars.specs.Utf8.{scalar, charOf}
-use Rattle.chars.specs.Letters.{white, lowerOf}
+use Rattle.chars.specs.Letters.{white, tabled, lowerOf}
 use Rattle.chars.specs.Answers.{Reaches, checked, vowelNext}
 use Rattle.chars.specs.Table.{table}
 use Rattle.chars.specs.declared.Char.{Char}
@@ -28,6 +28,9 @@ check-text s r r′ e f = only e f
 
 pub is-space : (c : ℕ) (r r′ : Bool) → r ≡ white c → r′ ≡ white c → r ≡ r′
 is-space c r r′ e f = only e f
+
+pub is-tabled : (c : ℕ) (r r′ : Bool) → r ≡ tabled c → r′ ≡ tabled c → r ≡ r′
+is-tabled c r r′ e f = only e f
 
 pub is-vowel : (next : Next) (r r′ : Bool) → r ≡ vowelNext next → r′ ≡ vowelNext next → r ≡ r′
 is-vowel next r r′ e f = only e f

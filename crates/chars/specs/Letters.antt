@@ -1,7 +1,7 @@
--- White_Space, lowercase and vowels. 01, "From name to codes". Assumes nothing.
+-- White_Space, what may stand in a name, lowercase and vowels. 01, "From name to codes". Assumes nothing.
 use Prim.Native.Nat.{ℕ, _+_, _%_}
 use mathlib.Core.Bool.{Bool, cond, _&&_, _||_}
-use lib.Dec.{eqb}
+use lib.Dec.{eqb, ltb}
 use Rattle.laws.specs.Lists.{between}
 
 -- 01: "the 25 White_Space characters: U+0009 to 000D, 0020, 0085, 00A0, 1680, 2000 to 200A, 2028, 2029, 202F, 205F, 3000."
@@ -9,6 +9,18 @@ unfoldable pub white : ℕ → Bool
 white c =
     between 0x0009 0x000D c || (eqb c 0x0020 || (eqb c 0x0085 || (eqb c 0x00A0 || (eqb c 0x1680 || (between 0x2000 0x200A c
     || (eqb c 0x2028 || (eqb c 0x2029 || (eqb c 0x202F || (eqb c 0x205F || eqb c 0x3000)))))))))
+
+-- the first character behind the lowercase table, U+0180
+abbrev pub latinEnd : ℕ
+latinEnd = 0x180
+
+-- "below U+0180": it has an entry in the lowercase table
+abbrev pub tabled : ℕ → Bool
+tabled c = ltb c latinEnd
+
+-- What may stand in a name. 11: "name holds a character neither White_Space nor below U+0180".
+abbrev pub allowed : ℕ → Bool
+allowed c = white c || tabled c
 
 -- Lowercase. 01: "a fixed lowercase table of 384 entries, U+0000 to U+017F; U+0130 gives `i`", and "lowercase [is] Unicode's".
 

@@ -2,10 +2,11 @@
 use Prim.Native.Nat.{ℕ}
 use mathlib.Core.Bool.{Bool, _&&_, not}
 use mathlib.Core.List.{List, [], _∷_}
-use lib.Dec.{T, eqb, ltb}
+use lib.Dec.{T, eqb}
 use lib.ListN.{drop}
 use Rattle.laws.specs.Lists.{every, same}
 use Rattle.chars.specs.Utf8.{textFrom, isText, charsFrom, charsOf, soundFrom, badPlace, failPlace}
+use Rattle.chars.specs.Letters.{tabled}
 use Rattle.chars.specs.Quoted.{bytes}
 
 -- bytes that are not UTF-8
@@ -46,7 +47,7 @@ begun =
 
 -- where the first character from U+0180 on begins
 abbrev foreign : Bool
-foreign = eqb (failPlace (λ c. ltb c 0x180) (bytes "abƀ")) 2 && eqb (failPlace (λ c. ltb c 0x180) (bytes "éƀaж")) 2
+foreign = eqb (failPlace tabled (bytes "abƀ")) 2 && eqb (failPlace tabled (bytes "éƀaж")) 2
 
 -- What is ill-formed is refused, what is well-formed is read; and no other character, and no other byte, for any of them.
 pub worked : T (every refused bad && isText edgeBytes && same (charsOf edgeBytes) edges && same (bytes "aÀ€😀") quoted

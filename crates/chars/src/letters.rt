@@ -1,7 +1,8 @@
-// White_Space and vowels.
+// White_Space, what a name may hold, and vowels.
 ghost use mathlib.Core.Path.{_≡_};
-ghost use Rattle.chars.specs.Letters.{white};
+ghost use Rattle.chars.specs.Letters.{white, tabled};
 ghost use Rattle.chars.specs.Answers.{vowelNext};
+use super::LATIN;
 use super::Next;
 
 pub fn is_space(c: u32) -> bool
@@ -21,6 +22,13 @@ pub fn is_space(c: u32) -> bool
         | 0x3000 => true,
         _ => false,
     }
+}
+
+// It has an entry in the lowercase table: apart from White_Space, what a name may hold.
+pub fn is_tabled(c: u32) -> bool
+    ensures { λ r. ⌜ r ≡ tabled c ⌝ }
+{
+    c < LATIN as u32
 }
 
 // None is no vowel.

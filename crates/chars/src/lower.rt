@@ -2,6 +2,7 @@
 ghost use mathlib.Core.Path.{_≡_};
 ghost use Rattle.chars.specs.Letters.{lowerOf};
 ghost use Rattle.chars.specs.Table.{table};
+use super::LATIN;
 
 fn wide(x: u16) -> u32
     ensures { λ r. ⌜ r ≡ x ⌝ }
@@ -10,23 +11,23 @@ fn wide(x: u16) -> u32
 }
 
 // The table, made once before a loop and lent: a constant array is laid on the stack anew wherever it is named.
-pub fn lowers() -> [u16; 384]
+pub fn lowers() -> [u16; LATIN]
     ensures { λ r. ⌜ r ≡ table ⌝ }
 {
     LOWER
 }
 
-pub fn lower(t: &[u16; 384], c: u32) -> u32
+pub fn lower(t: &[u16; LATIN], c: u32) -> u32
     requires { ⌜ now t ≡ table ⌝ }
     ensures { λ r. ⌜ r ≡ lowerOf c ⌝ }
 {
-    if 384 <= c {
+    if LATIN as u32 <= c {
         return c;
     }
     wide(t[c as usize])
 }
 
-const LOWER: [u16; 384] = [
+const LOWER: [u16; LATIN] = [
     0,
     1,
     2,

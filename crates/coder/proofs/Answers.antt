@@ -10,12 +10,13 @@ use lib.ListN.{length, length-map}
 use Rattle.laws.specs.Lists.{every, same}
 use Rattle.laws.specs.Once.{once}
 use Rattle.chars.specs.Utf8.{isText, charsOf, badPlace, failPlace}
+use Rattle.chars.specs.Letters.{allowed}
 use Rattle.plate.specs.Plate.{Plate}
 use Rattle.plate.specs.Read.{plateIn, accepted}
 use Rattle.branches.specs.Branches.{Branch, Use, start, run, over, code, codes}
 use Rattle.branches.specs.Room.{outcome}
 use Rattle.branches.proofs.Room.{run-fits}
-use Rattle.coder.specs.Name.{allowed, prepared, Named, named}
+use Rattle.coder.specs.Name.{prepared, Named, mostName, named}
 use Rattle.coder.specs.Name.Named.{Refused, Chars}
 use Rattle.coder.specs.Walk.{uses}
 use Rattle.coder.specs.Answer.{Coded, noCodes, smaller, listing, room, listed, encoded, answered, codedBy, plated, listAnswer, encodeAnswer}
@@ -104,7 +105,7 @@ module _ (s name lent : List ℕ) where
 
       go : (t : Bool) → (t ≡ true → listedTo most used lent ≡ call used lent) → plated (listedTo most) (cond t (some plate) none) name lent ≡ plated call (cond t (some plate) none) name lent
       go false k = refl
-      go true k = by-name (ltb 256 (length name)) (isText name) (every allowed (charsOf name)) (k refl)
+      go true k = by-name (ltb mostName (length name)) (isText name) (every allowed (charsOf name)) (k refl)
 
   -- List takes all alternatives.
   pub list-is : codeAnswer 8 s name lent ≡ listAnswer s name lent

@@ -6,14 +6,13 @@ use mathlib.Core.List.{List, [], _∷_, _++_, append-assoc, append-nil}
 use native.Mathlib.Nat.{zero-add, add-zero, add-assoc}
 use native.Mathlib.Omega.{arith}
 use borrow.Author.Tests.{lt-ltb, le-ltb}
-use lib.Dec.{ltb}
 use lib.ListN.{length, take, drop, set, replicate, length-append, length-replicate, length-drop, drop-of-length-le}
 use lib.Seq.{drop-drop, take-at}
 use Rattle.laws.specs.Lists.{every}
 use Rattle.laws.proofs.Many.{store}
 use Rattle.laws.proofs.Lists.{rest}
 use Rattle.chars.specs.Utf8.{charOf, isText, textFrom, charsFrom, charsOf, badPlace, failPlace}
-use Rattle.chars.specs.Letters.{white, lowerOf}
+use Rattle.chars.specs.Letters.{white, tabled, allowed, lowerOf}
 use Rattle.chars.specs.declared.Char.{Char}
 use Rattle.chars.specs.declared.Char.the-variants.{One, Bad}
 use Rattle.chars.specs.Answers.{checked}
@@ -25,7 +24,7 @@ use Rattle.chars.proofs.Checks.{Says, says, sound-front}
 use Rattle.chars.proofs.Faults.{sound-within, bad-here, fail-here, fail-behind}
 use Rattle.plate.specs.Plate.{Plate}
 use Rattle.plate.specs.Read.{foldBy}
-use Rattle.coder.specs.Name.{allowed, coded, prepared, Named, named}
+use Rattle.coder.specs.Name.{coded, prepared, Named, mostName, named}
 use Rattle.coder.specs.Name.Named.{Refused, Chars}
 use Rattle.coder.specs.Held.{namedBy, foreignFault}
 use Rattle.coder.specs.declared.NameFault.{NameFault}
@@ -82,16 +81,16 @@ text-bad (x ∷ xs) e = rw e
 pub record Made (p : Plate) (name chars : List ℕ) (count at : ℕ) : Type 0 where
   pub made : List ℕ
   pub long : length made ≡ count
-  pub is : chars ≡ made ++ replicate (256 - count) 0
+  pub is : chars ≡ made ++ replicate (mostName - count) 0
   pub left : ending p made at (drop at name) ≡ named p name
 
 module _ (p : Plate) (name : List ℕ) where
-  pub too-long : 256 < length name → Refused 1 0 ≡ named p name
-  too-long h = rw (lt-ltb 256 (length name) h)
+  pub too-long : mostName < length name → Refused 1 0 ≡ named p name
+  too-long h = rw (lt-ltb mostName (length name) h)
 
-  pub start : length name ≤ 256 → Made p name (replicate 256 0) 0 0
+  pub start : length name ≤ mostName → Made p name (replicate mostName 0) 0 0
   unfolding ending
-  start h = record { made = []; long = refl; is = refl; left = whole ∙ ap (λ (t : Bool). cond t (Refused 1 0) all) (sym (le-ltb 256 (length name) h)) }
+  start h = record { made = []; long = refl; is = refl; left = whole ∙ ap (λ (t : Bool). cond t (Refused 1 0) all) (sym (le-ltb mostName (length name) h)) }
     where
       all : Named
       all = cond (isText name) (cond (every allowed (charsOf name)) (Chars (prepared p name)) (Refused 11 (failPlace allowed name))) (Refused 2 (badPlace name))
@@ -103,9 +102,9 @@ module _ (p : Plate) (name : List ℕ) where
 
   module _ (chars : List ℕ) (count at : ℕ) (m : Made p name chars count at) where
     -- The array keeps its length.
-    pub whole : count ≤ 256 → length chars ≡ 256
+    pub whole : count ≤ mostName → length chars ≡ mostName
     whole h =
-        ap length (m .is) ∙ length-append (m .made) (replicate (256 - count) 0) ∙ ap₂ _+_ (m .long) (length-replicate (256 - count) 0) ∙ omega arith
+        ap length (m .is) ∙ length-append (m .made) (replicate (mostName - count) 0) ∙ ap₂ _+_ (m .long) (length-replicate (mostName - count) 0) ∙ omega arith
 
     module _ (r : Char) (e : r ≡ charOf (drop at name)) where
       pub bad : r ≡ Bad → Refused 2 at ≡ named p name
@@ -160,28 +159,28 @@ module _ (p : Plate) (name : List ℕ) where
               made = m .made;
               long = m .long;
               is = m .is;
-              left = passed (ap (λ (t : Bool). t || ltb c 0x180) h) (m .made) (sym (rw (characters, h) refl));
+              left = passed (ap (λ (t : Bool). t || tabled c) h) (m .made) (sym (rw (characters, h) refl));
             }
 
         -- Any other character that is allowed is kept.
-        pub kept : white c ≡ false → c < 0x180 → count < 256 → (v : ℕ) → v ≡ coded p c → Made p name (set chars count v) (count + 1) (at + w)
+        pub kept : white c ≡ false → tabled c ≡ true → count < mostName → (v : ℕ) → v ≡ coded p c → Made p name (set chars count v) (count + 1) (at + w)
         kept h k b v i =
             record {
               made = m .made ++ (v ∷ []);
               long = length-append (m .made) (v ∷ []) ∙ ap (λ (n : ℕ). n + 1) (m .long);
-              is = store 256 count (m .made) chars 0 v b (m .long) (m .is);
+              is = store mostName count (m .made) chars 0 v b (m .long) (m .is);
               left =
-                  passed (rw h (lt-ltb c 0x180 k)) (m .made ++ (v ∷ []))
+                  passed (ap (λ (t : Bool). t || tabled c) h ∙ k) (m .made ++ (v ∷ []))
                   (append-assoc (m .made) (v ∷ []) (prepared p behind) ∙ sym (rw (characters, h) (ap (λ (x : ℕ). m .made ++ (x ∷ prepared p behind)) (sym i))));
             }
 
         -- One that is not allowed is the fault, or a bad sequence behind it.
-        pub strange : white c ≡ false → 0x180 ≤ c → (x : NameFault) → x ≡ foreignFault at here → namedBy x [] ≡ named p name
+        pub strange : white c ≡ false → tabled c ≡ false → (x : NameFault) → x ≡ foreignFault at here → namedBy x [] ≡ named p name
         unfolding ending
         strange h k x same = ap (λ (y : NameFault). namedBy y []) same ∙ go (isText here) ∙ m .left
           where
             fails : allowed c ≡ false
-            fails = ap (λ (t : Bool). t || ltb c 0x180) h ∙ le-ltb c 0x180 k
+            fails = ap (λ (t : Bool). t || tabled c) h ∙ k
 
             found : every allowed (charsOf here) ≡ false
             found = by-first ∙ ap (λ (t : Bool). t && every allowed (charsOf behind)) fails
@@ -197,5 +196,5 @@ module _ (p : Plate) (name : List ℕ) where
     pub end : length name ≤ at → Chars (take count chars) ≡ named p name
     unfolding ending textFrom charsFrom
     end h =
-        ap Chars (ap (take count) (m .is) ∙ take-at (m .made) (replicate (256 - count) 0) count (m .long))
+        ap Chars (ap (take count) (m .is) ∙ take-at (m .made) (replicate (mostName - count) 0) count (m .long))
         ∙ rw (drop-of-length-le name h, append-nil) at (m .left)

@@ -12,13 +12,14 @@ use lib.ListN.{length}
 use Rattle.laws.specs.Lists.{every}
 use Rattle.laws.proofs.Tests.{and-true, by-test, between-true}
 use Rattle.chars.specs.Utf8.{isText, charsOf, badPlace, failPlace}
+use Rattle.chars.specs.Letters.{allowed}
 use Rattle.plate.specs.Plate.{Plate, goodRule, ordered}
 use Rattle.plate.specs.Read.{plateIn, accepted, readPlate}
 use Rattle.branches.specs.Branches.{Use, start, over, codes}
 use Rattle.branches.specs.Choice.{yielded, Filled, firsts, firstOnly}
 use Rattle.branches.proofs.Choice.{firsts-alone}
 use Rattle.branches.proofs.Room.{more-room}
-use Rattle.coder.specs.Name.{allowed, prepared, Named, named}
+use Rattle.coder.specs.Name.{prepared, Named, mostName, named}
 use Rattle.coder.specs.Name.Named.{Chars}
 use Rattle.coder.specs.Answer.{Coded, noCodes, listing, smaller, room, listed, encoded, answered, codedBy, plated, listAnswer, encodeAnswer}
 use Rattle.coder.specs.Given.{Given, usesIn}
@@ -30,7 +31,7 @@ use Rattle.coder.proofs.Answers.{judged}
 
 -- The name's characters are coded.
 coded-chars : (call : List Use → List ℕ → Coded) (p : Plate) (name lent : List ℕ) → codedBy call p name lent .number ≡ 0 → named p name ≡ Chars (prepared p name)
-coded-chars call p name lent e = go (ltb 256 (length name)) (isText name) (every allowed (charsOf name)) e
+coded-chars call p name lent e = go (ltb mostName (length name)) (isText name) (every allowed (charsOf name)) e
   where
     go : (long text fine : Bool) → answered call (p .rules) (judged long text fine (failPlace allowed name) (badPlace name)
         (prepared p name)) lent .number ≡ 0 → judged long text fine (failPlace allowed name) (badPlace name) (prepared p name) ≡ Chars (prepared p name)

@@ -1,18 +1,14 @@
 -- From the bytes of a name to the characters that are coded. 01, "From name to codes". Assumes nothing.
 use Prim.Native.Nat.{ℕ}
-use mathlib.Core.Bool.{Bool, cond, not, _||_}
+use mathlib.Core.Bool.{Bool, cond, not}
 use mathlib.Core.List.{List, map}
 use lib.Dec.{ltb}
 use lib.ListN.{length}
 use Rattle.laws.specs.Lists.{every, keep}
 use Rattle.chars.specs.Utf8.{isText, charsOf, badPlace, failPlace}
-use Rattle.chars.specs.Letters.{white, lowerOf}
+use Rattle.chars.specs.Letters.{white, allowed, lowerOf}
 use Rattle.plate.specs.Plate.{Plate}
 use Rattle.plate.specs.Read.{foldBy}
-
--- "a character neither White_Space nor below U+0180" is what a name may not hold
-abbrev pub allowed : ℕ → Bool
-allowed c = white c || ltb c 0x180
 
 -- "Drop the 25 White_Space characters"
 abbrev pub inked : ℕ → Bool
@@ -30,6 +26,7 @@ pub data Named : Type 0 where
   Refused : ℕ → ℕ → Named
   Chars : List ℕ → Named
 
+-- the most bytes of a name
 abbrev pub mostName : ℕ
 mostName = 256
 

@@ -7,6 +7,9 @@ pub mod answer; // answer.rt: encode and list
 
 use plate::Field;
 
+// The most bytes of a name.
+const MOST_NAME: usize = 256;
+
 // The rule that the search takes, by its place and its pattern's length in characters; or nothing, and whether the character has a group.
 enum Found {
     At(usize, usize),
@@ -23,7 +26,7 @@ enum NameFault {
 
 // The characters that are coded, zeros behind them; none where there is a fault.
 struct Prepared {
-    chars: [u32; 256],
+    chars: [u32; MOST_NAME],
     count: usize,
     fault: NameFault,
 }

@@ -5,21 +5,24 @@ ghost use lib.ListN.{length, drop, replicate};
 ghost use Prim.Native.Nat.{_≤_};
 ghost use Rattle.chars.specs.Table.{table};
 ghost use Rattle.plate.specs.Read.{plateIn, accepted};
-ghost use Rattle.coder.specs.Name.{coded};
+ghost use Rattle.coder.specs.Name.{mostName, coded};
 ghost use Rattle.coder.specs.Held.{foreignFault, PreparedIs};
 ghost use Rattle.coder.specs.declared.NameFault.the-variants.{None};
+use super::MOST_NAME;
 use super::NameFault;
 use super::Prepared;
 use chars::Char;
 use chars::Checked;
+use chars::LATIN;
 use chars::letters::is_space;
+use chars::letters::is_tabled;
 use chars::lower::lower;
 use chars::utf8::char_at;
 use chars::utf8::check_text;
 use plate::read;
 
 // "Lowercase each other character [..]. With the flag on, fold once, never again."
-fn coded_char(plate: &[u8], t: &[u16; 384], c: u32) -> u32
+fn coded_char(plate: &[u8], t: &[u16; LATIN], c: u32) -> u32
     requires { ⌜ (accepted (now plate) ≡ true) × (now t ≡ table) ⌝ }
     ensures { λ r. ⌜ r ≡ coded (plateIn (now (plate .entry))) c ⌝ }
 {
@@ -32,17 +35,17 @@ fn coded_char(plate: &[u8], t: &[u16; 384], c: u32) -> u32
 
 // A name with a fault: no characters.
 fn no_chars(fault: NameFault) -> Prepared
-    ensures { λ r. ⌜ r ≡ record { chars = replicate 256 0; count = 0; fault = fault } ⌝ }
+    ensures { λ r. ⌜ r ≡ record { chars = replicate mostName 0; count = 0; fault = fault } ⌝ }
 {
     Prepared {
-        chars: [0; 256],
+        chars: [0; MOST_NAME],
         count: 0,
         fault,
     }
 }
 
 // A name without one.
-fn with_chars(chars: [u32; 256], count: usize) -> Prepared
+fn with_chars(chars: [u32; MOST_NAME], count: usize) -> Prepared
     ensures { λ r. ⌜ r ≡ record { chars = chars; count = count; fault = None } ⌝ }
 {
     Prepared {
@@ -65,14 +68,14 @@ fn foreign_fault(name: &[u8], at: usize) -> NameFault
 }
 
 // The characters of a name, in one pass.
-pub(crate) fn prepare(plate: &[u8], name: &[u8], t: &[u16; 384]) -> Prepared
+pub(crate) fn prepare(plate: &[u8], name: &[u8], t: &[u16; LATIN]) -> Prepared
     requires { ⌜ (accepted (now plate) ≡ true) × (now t ≡ table) ⌝ }
     ensures { λ r. ⌜ PreparedIs (plateIn (now (plate .entry))) (now (name .entry)) r ⌝ }
 {
-    if 256 < name.len() {
+    if MOST_NAME < name.len() {
         return no_chars(NameFault::TooLong);
     }
-    let mut chars = [0; 256];
+    let mut chars = [0; MOST_NAME];
     let mut count: usize = 0;
     let mut at: usize = 0;
     loop {
@@ -82,7 +85,7 @@ pub(crate) fn prepare(plate: &[u8], name: &[u8], t: &[u16; 384]) -> Prepared
                     at += w;
                     continue;
                 }
-                if 0x180 <= c {
+                if !is_tabled(c) {
                     return no_chars(foreign_fault(name, at));
                 }
                 chars[count] = coded_char(plate, t, c);

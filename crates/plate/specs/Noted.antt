@@ -8,6 +8,7 @@ use lib.Dec.{eqb, ltb, leb}
 use lib.ListN.{length, take, drop, getD, set, replicate}
 use lib.Seq.{slice}
 use Rattle.laws.specs.Lists.{every}
+use Rattle.chars.specs.Letters.{latinEnd}
 use Rattle.plate.specs.Plate.{Rule, firstCode}
 use Rattle.plate.specs.Read.{many, past, ruleAt, ruleEnd, ruleCount, rulesPlace, countWidth}
 use Rattle.plate.specs.declared.Step.{Step}
@@ -52,7 +53,7 @@ pub record Placed (s : List ℕ) (from n : ℕ) (places : List ℕ) : Type 0 whe
 
 -- The groups of the first characters are noted, those that a name may hold, each in one number: its first rule times `half`, and the rule behind its last.
 abbrev pub notedCharacters : ℕ
-notedCharacters = 384
+notedCharacters = latinEnd
 
 abbrev pub half : ℕ
 half = 65536

@@ -93,9 +93,9 @@ module _ (text : List ℕ) (flag : Bool) (lent : List ℕ) (bytes : Bytes text) 
       go : (n : ℕ) → r .number ≡ n → r .length ≤ length out
       go zero e =
           let g = b .1 e in
-          let k = g .1 in
+          let k = g .long in
           let bytes = plateBytes (plateSaid flag text) in
-          let l = ap length (g .3) ∙ length-append bytes (drop (length bytes) lent) in omega arith
+          let l = ap length (g .written) ∙ length-append bytes (drop (length bytes) lent) in omega arith
       go (suc n) e = let k = b .0 .2 (λ z. omega arith) .0 in omega arith
 
   pub part : r .length ≡ length (take (r .length) out)
@@ -111,7 +111,7 @@ module _ (text : List ℕ) (flag : Bool) (lent : List ℕ) (bytes : Bytes text) 
       go : (n : ℕ) → r .number ≡ n → IsPlate (plateSaid flag text) (take (r .length) out)
       go zero e =
           let g = b .1 e in
-          (g .0, ap₂ take (g .1) (g .3) ∙ take-append-seam (plateBytes (plateSaid flag text)) (drop (length (plateBytes (plateSaid flag text))) lent))
+          (g .good, ap₂ take (g .long) (g .written) ∙ take-append-seam (plateBytes (plateSaid flag text)) (drop (length (plateBytes (plateSaid flag text))) lent))
       go (suc n) e =
           let k = b .0 .2 (λ z. omega arith) .0 in absurd (no-plate p (w .0, ap (λ (m : ℕ). take m out) (sym k) ∙ w .1))
 

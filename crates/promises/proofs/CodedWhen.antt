@@ -2,25 +2,25 @@
 use Prim.Native.Nat.{ℕ, _<_, _≤_}
 use mathlib.Core.Path.{_≡_, refl, sym, ap, subst, _∙_}
 use mathlib.Core.Logic.{_⊎_, inl, inr}
-use mathlib.Core.Bool.{Bool, true, false, cond, _&&_, false≢true}
+use mathlib.Core.Bool.{Bool, true, false, cond, _&&_, _||_, false≢true}
 use mathlib.Core.Option.{Option, none, some}
 use mathlib.Core.List.{List, [], _∷_, _++_, map}
 use native.Mathlib.Omega.{arith}
-use borrow.Author.Tests.{ltb-true, ltb-false}
+use borrow.Author.Tests.{ltb-true, ltb-false, le-ltb}
 use lib.Dec.{ltb}
 use lib.ListN.{length}
 use Rattle.laws.specs.Lists.{In, every}
 use Rattle.laws.proofs.Tests.{or-true, neither}
 use Rattle.laws.proofs.Members.{in-every}
 use Rattle.chars.specs.Utf8.{isText, charsOf, badPlace, failPlace}
-use Rattle.chars.specs.Letters.{white}
+use Rattle.chars.specs.Letters.{white, latinEnd, tabled, allowed}
 use Rattle.plate.specs.Plate.{Rule, Plate}
 use Rattle.plate.specs.Read.{readPlate}
 use Rattle.plate.proofs.Packed.{Bytes}
 use Rattle.plate.proofs.Round.{plate-reads, plate-exact}
 use Rattle.branches.specs.Branches.{Branch, Use, start, step, run, over, codes}
 use Rattle.branches.specs.Choice.{firstOnly}
-use Rattle.coder.specs.Name.{allowed, prepared}
+use Rattle.coder.specs.Name.{mostName, prepared}
 use Rattle.coder.specs.Walk.{uses}
 use Rattle.coder.specs.Answer as code
 use Rattle.coder.specs.Answer.{room, codedBy, plated, listAnswer, encodeAnswer}
@@ -50,18 +50,20 @@ read-plate bytes p b e = let x = plate-exact bytes p b e in (x .1, x .0)
 
 -- ---- names
 
-pub strange : (cs : List ℕ) → every allowed cs ≡ false → (c : ℕ) × In c cs × (white c ≡ false) × (0x180 ≤ c)
-strange cs e =
-    let x = every-false allowed cs e in
-    let n = neither (white (x .0)) (ltb (x .0) 0x180) (x .2) in
-    (x .0, x .1, n .0, ltb-false (x .0) 0x180 (n .1))
+-- A character that may not stand in a name is neither White_Space nor below U+0180, and one that is neither may not.
+pub foreign : (c : ℕ) → allowed c ≡ false → (white c ≡ false) × (latinEnd ≤ c)
+foreign c e = let n = neither (white c) (tabled c) e in (n .0, ltb-false c latinEnd (n .1))
 
-pub not-strange : (cs : List ℕ) → every allowed cs ≡ true → (c : ℕ) × In c cs × (white c ≡ false) × (0x180 ≤ c) → ⊥
-not-strange cs e s = go (or-true (white (s .0)) (ltb (s .0) 0x180) (in-every allowed cs (s .0) e (s .1)))
-  where
-    go : (white (s .0) ≡ true) ⊎ (ltb (s .0) 0x180 ≡ true) → ⊥
-    go (inl h) = false≢true (sym (s .2) ∙ h)
-    go (inr h) = let a = ltb-true (s .0) 0x180 h in let b = s .3 in omega arith
+pub not-allowed : (c : ℕ) → white c ≡ false → latinEnd ≤ c → allowed c ≡ false
+not-allowed c inked high = ap (λ (t : Bool). t || tabled c) inked ∙ le-ltb c latinEnd high
+
+pub strange : (name : List ℕ) → every allowed (charsOf name) ≡ false → Strange name
+strange name e =
+    let x = every-false allowed (charsOf name) e in
+    let n = foreign (x .0) (x .2) in record { c = x .0; among = x .1; inked = n .0; high = n .1 }
+
+pub not-strange : (name : List ℕ) → every allowed (charsOf name) ≡ true → Strange name → ⊥
+not-strange name e s = false≢true (sym (not-allowed (s .c) (s .inked) (s .high)) ∙ in-every allowed (charsOf name) (s .c) e (s .among))
 
 -- The checks of a name in front of a call whose own number meets its own check.
 named-number : (call : List Use → List ℕ → code.Coded) (rs : List Rule) (cs lent : List ℕ) (long text fine : Bool) (foreign broken : ℕ) (w₁ w₂ w₁₁ w₁₂ : Type 0)
@@ -76,11 +78,11 @@ named-number call rs cs lent false true true foreign broken w₁ w₂ w₁₁ w�
 name-number : (call : List Use → List ℕ → code.Coded) (p : Plate) (name lent : List ℕ) (full : Type 0)
     → Check (call (usesIn p name) lent .number) 12 full (call (usesIn p name) lent .number ≡ 0) → NameNumber name full (codedBy call p name lent .number)
 name-number call p name lent full last =
-    named-number call (p .rules) (prepared p name) lent (ltb 256 (length name)) (isText name) (every allowed (charsOf name)) (failPlace allowed name)
-    (badPlace name) (256 < length name) (isText name ≡ false) (Strange name) full
-    (λ e. ltb-true 256 (length name) e) (λ e h. let k = ltb-false 256 (length name) e in omega arith)
+    named-number call (p .rules) (prepared p name) lent (ltb mostName (length name)) (isText name) (every allowed (charsOf name)) (failPlace allowed name)
+    (badPlace name) (mostName < length name) (isText name ≡ false) (Strange name) full
+    (λ e. ltb-true mostName (length name) e) (λ e h. let k = ltb-false mostName (length name) e in omega arith)
     (λ e. e) (λ e h. false≢true (sym h ∙ e))
-    (λ e. strange (charsOf name) e) (λ e h. not-strange (charsOf name) e h)
+    (λ e. strange name e) (λ e h. not-strange name e h)
     last
 
 -- ---- 12
@@ -113,12 +115,12 @@ overfull : (plate name lent : List ℕ) (p : Plate) → IsPlate p plate
     → (let n = code.listed (usesIn p name) lent .number in Check n 12 (Overfull plate name lent) (n ≡ 0))
 overfull plate name lent p w =
     tested-12 (over (room lent) (usesIn p name) start) (codes (usesIn p name)) lent (Overfull plate name lent)
-    (λ e. let r = over-some (room lent) (usesIn p name) start e in (p, w, r .0, r .1, r .2, r .3))
+    (λ e. let r = over-some (room lent) (usesIn p name) start e in record { p = p; is = w; done = r .0; more = r .1; cut = r .2; longer = r .3 })
     (λ e o.
-    let same = some-inj (o .0) p (sym (plate-read plate (o .0) (o .1)) ∙ plate-read plate p w) in
-    let cut = ap (λ (q : Plate). usesIn q name) (sym same) ∙ o .4 in
-    let less = over-none (room lent) (o .2) (o .3) start (ap (λ (l : List Use). over (room lent) l start) (sym cut) ∙ e) in
-    let more = o .5 in omega arith)
+    let same = some-inj (o .p) p (sym (plate-read plate (o .p) (o .is)) ∙ plate-read plate p w) in
+    let cut = ap (λ (q : Plate). usesIn q name) (sym same) ∙ o .cut in
+    let less = over-none (room lent) (o .done) (o .more) start (ap (λ (l : List Use). over (room lent) l start) (sym cut) ∙ e) in
+    let more = o .longer in omega arith)
 
 too-short : (us : List Use) (lent : List ℕ) → (let n = code.encoded us lent .number in Check n 12 (length lent < 6) (n ≡ 0))
 too-short us lent =

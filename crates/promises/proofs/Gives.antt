@@ -94,12 +94,13 @@ build-gives text flag lent bytes n =
     let made′ : a ≡ delivered (plateBytes (plateSaid flag text)) lent = made ∙ ap (λ (p : Plate). delivered (plateBytes p) lent) said in
     let f = fitting (plateBytes (plateSaid flag text)) lent (ap (λ (c : Built). c .number) (sym made′) ∙ n) in
     let is : a ≡ whole (plateBytes (plateSaid flag text)) lent = made′ ∙ f .0 in
-    let long : a .length ≡ length (plateBytes (plateSaid flag text)) = ap (λ (c : Built). c .length) is in (
-      ap goodPlate (sym said) ∙ build-good text bytes (j .0) b (x .1) flag,
-      long,
-      subst (λ (m : ℕ). m ≤ length lent) (sym long) (f .1),
-      ap (λ (c : Built). c .buffer) is,
-    )
+    let long : a .length ≡ length (plateBytes (plateSaid flag text)) = ap (λ (c : Built). c .length) is in
+    record {
+      good = ap goodPlate (sym said) ∙ build-good text bytes (j .0) b (x .1) flag;
+      long = long;
+      fits = subst (λ (m : ℕ). m ≤ length lent) (sym long) (f .1);
+      written = ap (λ (c : Built). c .buffer) is;
+    }
 
 -- ---- what a listing writes
 
@@ -150,7 +151,8 @@ module _ (plate name lent : List ℕ) (bytes : Bytes plate) where
       let never = name-passed name (Overfull plate name lent) (listAnswer plate name lent .number) n (a .1) in
       let many = length-map (run (usesIn p name) start) code in
       let fewer = once-short same (map code (run (usesIn p name) start)) in
-      by-lt (room lent) (length (run (usesIn p name) start)) (λ h. absurd (never (p, w, usesIn p name, [], sym (append-nil (usesIn p name)), h))) (λ h. omega arith)
+      by-lt (room lent) (length (run (usesIn p name) start))
+      (λ h. absurd (never (record { p = p; is = w; done = usesIn p name; more = []; cut = sym (append-nil (usesIn p name)); longer = h }))) (λ h. omega arith)
 
   pub list-gives : ListGives plate name lent (listAnswer plate name lent)
   list-gives n =

@@ -156,10 +156,11 @@ whole-size n =
     pack-length (bits-of (whole n)) ∙ ap (λ (m : ℕ). (m + 7) / 8) bits
 
 largest-of : (n : ℕ) → n ≤ 1500 → LargestOf n ((32 + 42 * 128 + 793 * n + 7) / 8)
-largest-of n h = (
-  (λ bytes p w few. subst (λ (s : List ℕ). length s ≤ (32 + 42 * 128 + 793 * n + 7) / 8) (sym (w .1)) (plate-most p n (w .0) few)),
-  (whole n, plateBytes (whole n), (whole-good n h, refl), length-replicate n full, whole-size n),
-)
+largest-of n h =
+    record {
+      none = λ bytes p w few. subst (λ (s : List ℕ). length s ≤ (32 + 42 * 128 + 793 * n + 7) / 8) (sym (w .1)) (plate-most p n (w .0) few);
+      one = record { plate = whole n; bytes = plateBytes (whole n); is = (whole-good n h, refl); ruled = length-replicate n full; sized = whole-size n };
+    }
 
 pub largest : Largest
 largest = (largest-of 512 (omega arith), largest-of 1500 (omega arith), λ bytes p w. good-is p (w .0) .few)

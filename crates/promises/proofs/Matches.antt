@@ -61,8 +61,10 @@ module _ (plate name lent : List ℕ) (bytes : Bytes plate) where
       let us = usesIn (g .0) name in (
         g .0,
         g .1,
-        (λ k h. listed-chosen us (codeAt a k) (place-listed (codes us) lent a (g .2) k h)),
-        (λ choice c. listed-place (codes us) lent a (g .2) (yielded us choice) (chosen-listed us choice c)),
+        record {
+          only = λ k h. listed-chosen us (codeAt a k) (place-listed (codes us) lent a (g .2) k h);
+          every = λ choice c. listed-place (codes us) lent a (g .2) (yielded us choice) (chosen-listed us choice c);
+        },
       )
 
   pub encodes-first : (other : List ℕ) → EncodesFirst (listAnswer plate name lent) other (encodeAnswer plate name other)
@@ -106,11 +108,13 @@ module _ (plate wide name lent more : List ℕ) (bytes : Bytes plate) (bytes′ 
       let wa = subst (λ (r : Plate). Writes (codes (usesIn r name)) lent a) (one-plate plate (g .0) p (g .1) v) (g .2) in
       let wb = subst (λ (r : Plate). Writes (codes (usesIn r name)) more b) (one-plate wide (h .0) q (h .1) v′) (h .2) in
       let wider = plate-uses p q name w in
-      let full = filled plate name p (plate-read plate p v) in (
-        (λ k l. listed-place (codes vs) more b wb (codeAt a k) (wider-listed us vs wider (codeAt a k) (place-listed (codes us) lent a wa k l))),
-        first-place (codes vs) more b wb (yielded us (firsts us)) (wider-first us vs wider full)
-            ∙ sym (first-place (codes us) lent a wa (yielded us (firsts us)) (first-listed us full)),
-      )
+      let full = filled plate name p (plate-read plate p v) in
+      record {
+        each = λ k l. listed-place (codes vs) more b wb (codeAt a k) (wider-listed us vs wider (codeAt a k) (place-listed (codes us) lent a wa k l));
+        first =
+            first-place (codes vs) more b wb (yielded us (firsts us)) (wider-first us vs wider full)
+            ∙ sym (first-place (codes us) lent a wa (yielded us (firsts us)) (first-listed us full));
+      }
 
 -- ---- d
 
@@ -128,12 +132,14 @@ module _ (plate name lent more : List ℕ) (bytes : Bytes plate) where
       let good = read-plate plate (g .0) bytes (g .2 .read) .0 in
       let long = so-long cs (six cs (subst (Each SixDigits) (sym (g .2 .all)) (codes-six (g .0) name good))) in
       let front : (l : List ℕ) → take (7 * a .count - 1) (joined cs ++ l) ≡ joined cs = λ l. take-at (joined cs) l (7 * a .count - 1) (long ∙ ap (λ (m : ℕ). 7 * m - 1) (sym counted)) in
-      let count : b .count ≡ a .count = ap (λ (c : Coded). c .count) is′ ∙ sym counted in (
-        ap (λ (c : Coded). c .number) is′,
-        count,
-        ap (λ (c : Coded). take (7 * a .count - 1) (c .buffer)) is′
+      let count : b .count ≡ a .count = ap (λ (c : Coded). c .count) is′ ∙ sym counted in
+      record {
+        answers = ap (λ (c : Coded). c .number) is′;
+        counted = count;
+        same =
+            ap (λ (c : Coded). take (7 * a .count - 1) (c .buffer)) is′
             ∙ front (drop (length (joined cs)) more)
             ∙ sym (front (drop (length (joined cs)) lent))
-            ∙ ap (λ (c : Coded). take (7 * a .count - 1) (c .buffer)) (sym is),
-        subst (λ (m : ℕ). drop (7 * m - 1) (b .buffer) ≡ drop (7 * m - 1) more) count (w .2 .behind),
-      )
+            ∙ ap (λ (c : Coded). take (7 * a .count - 1) (c .buffer)) (sym is);
+        behind = subst (λ (m : ℕ). drop (7 * m - 1) (b .buffer) ≡ drop (7 * m - 1) more) count (w .2 .behind);
+      }

@@ -1,29 +1,29 @@
 -- The places that encode's and list's definitions give meet the conditions of specs/When.antt, and no two places meet them for one name. Assumes nothing.
 use Prim.Native.Nat.{ℕ}
 use mathlib.Core.Path.{_≡_, refl, sym, subst, _∙_}
-use mathlib.Core.Bool.{Bool, true, false, cond, _||_, false≢true}
+use mathlib.Core.Bool.{Bool, true, false, cond}
 use mathlib.Core.Option.{Option, none, some}
 use mathlib.Core.List.{List, map}
 use native.Mathlib.Omega.{arith}
-use borrow.Author.Tests.{eqb-true, eqb-false, ltb-false, le-ltb}
+use borrow.Author.Tests.{eqb-true, eqb-false}
 use lib.Dec.{eqb, ltb}
 use lib.ListN.{length, take, drop}
 use Rattle.laws.specs.Lists.{every}
-use Rattle.laws.proofs.Tests.{by-test, neither}
+use Rattle.laws.proofs.Tests.{by-test}
 use Rattle.chars.specs.Utf8.{isText, charsOf, badPlace, failPlace}
-use Rattle.chars.specs.Letters.{white}
+use Rattle.chars.specs.Letters.{allowed}
 use Rattle.chars.proofs.Faults.{FailsAt, bad-stands, bad-only, fail-stands, fail-only}
 use Rattle.plate.specs.Plate.{Rule, Plate}
 use Rattle.plate.specs.Read.{readPlate}
 use Rattle.plate.proofs.Packed.{Bytes}
 use Rattle.branches.specs.Branches.{Use, start, over, codes}
 use Rattle.branches.specs.Choice.{firstOnly}
-use Rattle.coder.specs.Name.{allowed, prepared}
+use Rattle.coder.specs.Name.{mostName, prepared}
 use Rattle.coder.specs.Walk.{uses}
 use Rattle.coder.specs.Answer.{Coded, noCodes, listing, room, listed, encoded, answered, plated, listAnswer, encodeAnswer}
 use Rattle.coder.proofs.Answers.{judged}
 use Rattle.promises.specs.When.{BadAt, Strange, StrangeAt, Placed, ListNumber, EncodeNumber}
-use Rattle.promises.proofs.CodedWhen.{strange, not-strange, list-checks, encode-checks}
+use Rattle.promises.proofs.CodedWhen.{foreign, not-allowed, strange, not-strange, list-checks, encode-checks}
 
 -- ---- one place
 
@@ -37,12 +37,8 @@ all-allowed cs h = go (every allowed cs) refl
 
 strange-only : (name : List ℕ) (place : ℕ) → StrangeAt name place → place ≡ failPlace allowed name
 strange-only name place s =
-    fail-only name place (s .text) allowed (s .c) (s .width) (all-allowed (charsOf (take place name)) (λ e. s .none (strange (charsOf (take place name)) e))) (s .stands)
-    (foreign (white (s .c)) (ltb (s .c) 0x180) (s .inked) (le-ltb (s .c) 0x180 (s .high)))
-  where
-    foreign : (a b : Bool) → a ≡ false → b ≡ false → a || b ≡ false
-    foreign true b e f = absurd (false≢true (sym e))
-    foreign false b e f = f
+    fail-only name place (s .text) allowed (s .c) (s .width) (all-allowed (charsOf (take place name)) (λ e. s .none (strange (take place name) e))) (s .stands)
+    (not-allowed (s .c) (s .inked) (s .high))
 
 pub place-only : (name : List ℕ) (n n′ place place′ : ℕ) → n ≡ n′ → Placed name n place → Placed name n′ place′ → place ≡ place′
 place-only name n n′ place place′ e a c = go (eqb n 2) (eqb n 11) refl refl
@@ -69,10 +65,10 @@ strange-at name text fails =
       c = f .c;
       width = f .w;
       text = f .text;
-      none = λ s. not-strange (charsOf (take (failPlace allowed name) name)) (f .pass) s;
+      none = λ s. not-strange (take (failPlace allowed name) name) (f .pass) s;
       stands = f .stands;
-      inked = neither (white (f .c)) (ltb (f .c) 0x180) (f .fails) .0;
-      high = ltb-false (f .c) 0x180 (neither (white (f .c)) (ltb (f .c) 0x180) (f .fails) .1);
+      inked = foreign (f .c) (f .fails) .0;
+      high = foreign (f .c) (f .fails) .1;
     }
   where
     f : FailsAt allowed name (failPlace allowed name)
@@ -101,7 +97,7 @@ module _ (call : List Use → List ℕ → Coded) (own : (us : List Use) (lent :
   plated-placed : (o : Option Plate) → (let a = plated call o name lent in Placed name (a .number) (a .place))
   plated-placed none = placeless name 10 (λ e. omega arith) (λ e. omega arith)
   plated-placed (some p) =
-      judged-placed (p .rules) (prepared p name) (ltb 256 (length name)) (isText name) (every allowed (charsOf name)) (failPlace allowed name) (badPlace name)
+      judged-placed (p .rules) (prepared p name) (ltb mostName (length name)) (isText name) (every allowed (charsOf name)) (failPlace allowed name) (badPlace name)
       (λ e. bad-stands name e) (λ e f. strange-at name e f)
 
 -- ---- number and place

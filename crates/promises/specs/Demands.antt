@@ -10,7 +10,7 @@ use Rattle.chars.specs.Digits.{digit}
 use Rattle.plate.specs.Plate.{Plate, goodPlate}
 use Rattle.plate.specs.Written.{plateBytes}
 use Rattle.builder.specs.Build.{Built}
-use Rattle.branches.specs.Branches.{codes}
+use Rattle.branches.specs.Branches.{Use, codes}
 use Rattle.branches.specs.Choice.{Chosen, yielded, firsts}
 use Rattle.coder.specs.Answer.{Coded}
 use Rattle.coder.specs.Given.{usesIn}
@@ -43,11 +43,16 @@ EncodeRefuses plate name lent a = EncodeNumber plate name lent (a .number) (a .p
 
 -- ---- demand 2: "Plates and codes equal the definitions written from the crate's rules and description." (The comparison with the Rust is run, not proved.)
 
--- What is built is the plate that the text says, one that obeys the table; the bytes behind it are as lent.
+-- This plate is written, one that obeys the table, and nothing else: the bytes behind it are as lent.
+pub record WritesPlate (p : Plate) (lent : List ℕ) (a : Built) : Type 0 where
+  pub good : goodPlate p ≡ true
+  pub long : a .length ≡ length (plateBytes p)
+  pub fits : a .length ≤ length lent
+  pub written : a .buffer ≡ plateBytes p ++ drop (length (plateBytes p)) lent
+
+-- What is built is the plate that the text says.
 abbrev pub BuildGives : List ℕ → Bool → List ℕ → Built → Type 0
-BuildGives text flag lent a =
-    let bytes = plateBytes (plateSaid flag text) in
-    a .number ≡ 0 → (goodPlate (plateSaid flag text) ≡ true) × (a .length ≡ length bytes) × (a .length ≤ length lent) × (a .buffer ≡ bytes ++ drop (length bytes) lent)
+BuildGives text flag lent a = a .number ≡ 0 → WritesPlate (plateSaid flag text) lent a
 
 -- "code number k, from 0, is lent the buffer from byte 7k on"
 abbrev pub codeAt : Coded → ℕ → List ℕ
@@ -76,11 +81,18 @@ EncodeGives plate name lent a = a .number ≡ 0 → (p : Plate) × IsPlate p pla
 abbrev pub OnePlate : Type 0
 OnePlate = (bytes : List ℕ) (p q : Plate) → IsPlate p bytes → IsPlate q bytes → p ≡ q
 
+-- A plate of so many rules, and of so many bytes.
+pub record PlateOf (rules long : ℕ) : Type 0 where
+  pub plate : Plate
+  pub bytes : List ℕ
+  pub is : IsPlate plate bytes
+  pub ruled : length (plate .rules) ≡ rules
+  pub sized : length bytes ≡ long
+
 -- No plate of so many rules at most is longer than so many bytes, and one is as long.
-abbrev pub LargestOf : ℕ → ℕ → Type 0
-LargestOf rules most =
-    ((bytes : List ℕ) (p : Plate) → IsPlate p bytes → length (p .rules) ≤ rules → length bytes ≤ most)
-    × ((p : Plate) × (bytes : List ℕ) × IsPlate p bytes × (length (p .rules) ≡ rules) × (length bytes ≡ most))
+pub record LargestOf (rules most : ℕ) : Type 0 where
+  pub none : (bytes : List ℕ) (p : Plate) → IsPlate p bytes → length (p .rules) ≤ rules → length bytes ≤ most
+  pub one : PlateOf rules most
 
 -- 01: "The largest is 4 + 672 + 50,752 = 51,428 bytes." 02, M-106: "The largest becomes 149,364 bytes"; and every plate is one of 1,500 rules at most.
 abbrev pub Largest : Type 0
@@ -89,21 +101,21 @@ Largest = LargestOf 512 51428 × LargestOf 1500 149364 × ((bytes : List ℕ) (p
 -- ---- demand 3: "More never loses a match."
 
 -- a) "The codes listed are exactly those that some choice of one alternative at each use of a rule yields"
+pub record ChoicesOf (us : List Use) (a : Coded) : Type 0 where
+  pub only : (k : ℕ) → k < a .count → (choice : List (List ℕ)) × Chosen us choice × (codeAt a k ≡ yielded us choice)
+  pub every : (choice : List (List ℕ)) → Chosen us choice → (k : ℕ) × (k < a .count) × (codeAt a k ≡ yielded us choice)
+
 abbrev pub ListsChoices : List ℕ → List ℕ → Coded → Type 0
-ListsChoices plate name a =
-    a .number ≡ 0
-    → (p : Plate)
-    × IsPlate p plate
-    × ((k : ℕ) → k < a .count → (choice : List (List ℕ)) × Chosen (usesIn p name) choice × (codeAt a k ≡ yielded (usesIn p name) choice))
-    × ((choice : List (List ℕ)) → Chosen (usesIn p name) choice → (k : ℕ) × (k < a .count) × (codeAt a k ≡ yielded (usesIn p name) choice))
+ListsChoices plate name a = a .number ≡ 0 → (p : Plate) × IsPlate p plate × ChoicesOf (usesIn p name) a
 
 -- b) "the unbranched one first": where list answers, encode answers in any buffer that holds a code, and gives the first of the list
 abbrev pub EncodesFirst : Coded → List ℕ → Coded → Type 0
 EncodesFirst a other e = a .number ≡ 0 → 6 ≤ length other → (e .number ≡ 0) × (e .count ≡ 1) × (codeAt e 0 ≡ codeAt a 0)
 
 -- c) "Further alternatives behind a rule's keep every earlier code and the first."
-abbrev pub KeepsCodes : Coded → Coded → Type 0
-KeepsCodes a b = ((k : ℕ) → k < a .count → (j : ℕ) × (j < b .count) × (codeAt b j ≡ codeAt a k)) × (codeAt b 0 ≡ codeAt a 0)
+pub record KeepsCodes (a b : Coded) : Type 0 where
+  pub each : (k : ℕ) → k < a .count → (j : ℕ) × (j < b .count) × (codeAt b j ≡ codeAt a k)
+  pub first : codeAt b 0 ≡ codeAt a 0
 
 -- The second plate differs from the first only by further alternatives behind.
 abbrev pub WiderPlate : Plate → Plate → Type 0
@@ -122,9 +134,11 @@ abbrev pub TextsKeep : List ℕ → List ℕ → Coded → Coded → Type 0
 TextsKeep text wide a b = WiderText text wide → a .number ≡ 0 → b .number ≡ 0 → KeepsCodes a b
 
 -- d) "A list given once is given again, byte for byte, in any longer buffer."
+pub record GivesAgain (longer : List ℕ) (a b : Coded) : Type 0 where
+  pub answers : b .number ≡ 0
+  pub counted : b .count ≡ a .count
+  pub same : take (7 * a .count - 1) (b .buffer) ≡ take (7 * a .count - 1) (a .buffer)
+  pub behind : drop (7 * a .count - 1) (b .buffer) ≡ drop (7 * a .count - 1) longer
+
 abbrev pub GivenAgain : List ℕ → List ℕ → Coded → Coded → Type 0
-GivenAgain lent longer a b =
-    let n = 7 * a .count - 1 in
-    a .number ≡ 0
-    → length lent ≤ length longer
-    → (b .number ≡ 0) × (b .count ≡ a .count) × (take n (b .buffer) ≡ take n (a .buffer)) × (drop n (b .buffer) ≡ drop n longer)
+GivenAgain lent longer a b = a .number ≡ 0 → length lent ≤ length longer → GivesAgain longer a b

@@ -10,7 +10,7 @@ use lib.ListN.{length, take, drop}
 use Rattle.laws.specs.Lists.{In, some}
 use Rattle.chars.specs.Utf8.{charOf, isText, charsOf}
 use Rattle.chars.specs.declared.Char.the-variants.{One, Bad}
-use Rattle.chars.specs.Letters.{white}
+use Rattle.chars.specs.Letters.{white, latinEnd}
 use Rattle.rule_text.specs.Items.{Saying, Item, items, lineOf}
 use Rattle.rule_text.specs.Items.Saying.{RuleItem, FoldingItem, LineEndItem, CommentItem, UnknownItem}
 use Rattle.rule_text.specs.Fields.{alternatives}
@@ -18,6 +18,7 @@ use Rattle.chars.specs.Digits.{isAlternative}
 use Rattle.plate.specs.Plate.{Folding, Plate}
 use Rattle.plate.specs.Written.{plateBytes}
 use Rattle.branches.specs.Branches.{Use, start, run}
+use Rattle.coder.specs.Name.{mostName}
 use Rattle.coder.specs.Answer.{room}
 use Rattle.coder.specs.Given.{usesIn}
 use Rattle.promises.specs.Said.{rulesOf, foldingsOf, plateSaid, IsPlate}
@@ -33,8 +34,11 @@ abbrev pub NotAPlate : List ℕ → Type 0
 NotAPlate bytes = (p : Plate) → IsPlate p bytes → ⊥
 
 -- 11: "name holds a character neither White_Space nor below U+0180"
-abbrev pub Strange : List ℕ → Type 0
-Strange name = (c : ℕ) × In c (charsOf name) × (white c ≡ false) × (0x180 ≤ c)
+pub record Strange (name : List ℕ) : Type 0 where
+  pub c : ℕ
+  pub among : In c (charsOf name)
+  pub inked : white c ≡ false
+  pub high : latinEnd ≤ c
 
 -- 02, M-101, with 2: "the first byte of the earliest sequence that is not UTF-8". What stands before it is UTF-8, and at it stands no character.
 abbrev pub BadAt : List ℕ → ℕ → Type 0
@@ -48,7 +52,7 @@ pub record StrangeAt (name : List ℕ) (place : ℕ) : Type 0 where
   pub none : Strange (take place name) → ⊥
   pub stands : charOf (drop place name) ≡ One c width
   pub inked : white c ≡ false
-  pub high : 0x180 ≤ c
+  pub high : latinEnd ≤ c
 
 -- "refusals 2 and 11 of encode and list return that place, all other answers return 0."
 pub record Placed (name : List ℕ) (n place : ℕ) : Type 0 where
@@ -57,13 +61,17 @@ pub record Placed (name : List ℕ) (n place : ℕ) : Type 0 where
   pub other : (n ≡ 2 → ⊥) → (n ≡ 11 → ⊥) → place ≡ 0
 
 -- 12, for list: "the branch list, at the start or after some step, is longer than room"
-abbrev pub Overfull : List ℕ → List ℕ → List ℕ → Type 0
-Overfull plate name lent =
-    (p : Plate) × IsPlate p plate × (done more : List Use) × (usesIn p name ≡ done ++ more) × (room lent < length (run done start))
+pub record Overfull (plate name lent : List ℕ) : Type 0 where
+  pub p : Plate
+  pub is : IsPlate p plate
+  pub done : List Use
+  pub more : List Use
+  pub cut : usesIn p name ≡ done ++ more
+  pub longer : room lent < length (run done start)
 
--- the name's checks; `full` is the call's own condition for 12
+-- The name's checks. 1: "name over 256 bytes"; `full` is the call's own condition for 12.
 abbrev pub NameNumber : List ℕ → Type 0 → ℕ → Type 0
-NameNumber name full n = Check n 1 (256 < length name) (Check n 2 (isText name ≡ false) (Check n 11 (Strange name) (Check n 12 full (n ≡ 0))))
+NameNumber name full n = Check n 1 (mostName < length name) (Check n 2 (isText name ≡ false) (Check n 11 (Strange name) (Check n 12 full (n ≡ 0))))
 
 -- number and place
 abbrev pub ListNumber : List ℕ → List ℕ → List ℕ → ℕ → ℕ → Type 0

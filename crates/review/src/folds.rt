@@ -6,6 +6,7 @@ use super::text::FOLDING;
 use super::text::behind;
 use super::text::first_item;
 use chars::letters::is_space;
+use chars::letters::is_tabled;
 use chars::lower::lower;
 use chars::lower::lowers;
 
@@ -79,7 +80,7 @@ pub(crate) fn collect(text: &[u8], folding: bool, folds: &mut [u64]) {
 
 // Whether a name can hold a character once it is lowered.
 pub(crate) fn is_held(c: u32) -> bool {
-    if 0x180 <= c || is_space(c) {
+    if !is_tabled(c) || is_space(c) {
         return false;
     }
     let table = lowers();

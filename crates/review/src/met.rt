@@ -15,6 +15,7 @@ use super::text::line_at;
 use super::told::put_spot;
 use chars::Char;
 use chars::letters::is_space;
+use chars::letters::is_tabled;
 use chars::utf8::char_at;
 use check::same;
 use files::tell::put_path;
@@ -40,7 +41,7 @@ struct Tally {
 
 // Why a character that stands at a place is never met.
 fn put_reason(out: &mut [u8], pen: Pen, c: u32) -> Pen {
-    if 0x180 <= c {
+    if !is_tabled(c) {
         return put(out, pen, b", which no name may hold\n");
     }
     if is_space(c) {

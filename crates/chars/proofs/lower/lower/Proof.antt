@@ -8,6 +8,9 @@ use borrow.Author.Needs.{needs}
 use Rattle.chars.proofs.lower.lower.Statement.{statement}
 use Rattle.chars.proofs.lower.lower.Tie as tie
 
+cast-if1 : tie.Need-cast-if1
+cast-if1 c = search needs
+
 returns : tie.Need-returns
 returns c = sym (high (c .before .args .c) (c .if1 .taken))
 
@@ -25,4 +28,4 @@ returns-2 c = c .wide .ensures ∙ ap (λ (l : List ℕ). getD l (c .before .bef
     (c .before .before .before .args .c) (c .before .before .if1 .left)
 
 pub lower-spec : {M : Type 1} → statement M
-lower-spec = tie.close (tie.spec returns mul-wide element-copy-out-wide wide-requires returns-2)
+lower-spec = tie.close (tie.spec cast-if1 returns mul-wide element-copy-out-wide wide-requires returns-2)

@@ -6,10 +6,12 @@ use mathlib.Core.List.{List, []}
 use mathlib.Core.Path.{_≡_, sym, _∙_}
 use native.Mathlib.Omega.{arith}
 use borrow.Author.Needs.{needs}
+use borrow.Author.Tests.{not-true, not-false}
 use lib.ListN.{length, replicate, length-replicate}
+use Rattle.laws.proofs.Tests.{told}
 use Rattle.plate.specs.Plate.{Plate}
 use Rattle.plate.specs.Read.{plateIn}
-use Rattle.coder.specs.Name.{named}
+use Rattle.coder.specs.Name.{mostName, named}
 use Rattle.coder.specs.Held.{namedBy, PreparedIs}
 use Rattle.coder.specs.declared.NameFault.{NameFault}
 use Rattle.coder.specs.declared.Prepared.{Prepared}
@@ -31,8 +33,12 @@ wide : (k : tie.After-known-told Inv-loop μ-loop)
     (1 ≤ w) × (turn .loop .at + w ≤ length (entry .args .name .now))
 wide k = let r = rw (k .before .c .given .1) at (k .before .before .before .char-at .ensures .1) in (r .some, r .within)
 
+-- Where the character was read that is coded here.
+abbrev character : tie.After-coded-char Inv-loop μ-loop → tie.After-known-told Inv-loop μ-loop
+character c = let tested = c .before in tested .before .before .before .before
+
 -- So there is room for it.
-few : (k : tie.After-known-told Inv-loop μ-loop) → k .before .before .before .before .loop .count < 256
+few : (k : tie.After-known-told Inv-loop μ-loop) → k .before .before .before .before .loop .count < mostName
 few k =
     let turn = k .before .before .before .before in
     let w = wide k in
@@ -47,8 +53,8 @@ behind : (c : tie.After-enum-told2 Inv-loop μ-loop)
 behind c = rw (c .enum-told2 .given .1) at (c .before .before .char-at .ensures .1)
 
 -- A refusal has no characters.
-refuses : (p : Plate) (name : List ℕ) (r : Prepared) (f : NameFault) → r ≡ record { chars = replicate 256 0; count = 0; fault = f } → namedBy f [] ≡ named p name → PreparedIs p name r
-refuses p name r f e g = rw e (record { is = g; few = omega arith; long = length-replicate {A = ℕ} 256 0 })
+refuses : (p : Plate) (name : List ℕ) (r : Prepared) (f : NameFault) → r ≡ record { chars = replicate mostName 0; count = 0; fault = f } → namedBy f [] ≡ named p name → PreparedIs p name r
+refuses p name r f e g = rw e (record { is = g; few = omega arith; long = length-replicate {A = ℕ} mostName 0 })
 
 no-chars-requires : tie.Need-no-chars-requires Inv-loop μ-loop
 no-chars-requires c κs = tt
@@ -84,9 +90,12 @@ loop-again c =
     let w = wide k in
     (omega arith, w .1, space _ _ _ _ _ (i .2) _ (read .char-at .ensures .0) _ _ (k .before .c .given .1) (w .0) (sym (c .before .is-space .ensures) ∙ c .if2 .taken))
 
+is-tabled-requires : tie.Need-is-tabled-requires Inv-loop μ-loop
+is-tabled-requires c κs = tt
+
 foreign-fault-requires : tie.Need-foreign-fault-requires Inv-loop μ-loop
 foreign-fault-requires c κs =
-    let k = c .before .before .before in
+    let k = c .before .before .before .before in
     let turn = k .before .before .before .before in turn .loop .inv .1
 
 no-chars-requires-2 : tie.Need-no-chars-requires-2 Inv-loop μ-loop
@@ -96,17 +105,18 @@ returns-2 : tie.Need-returns-2 Inv-loop μ-loop
 returns-2 c =
     let fault = c .before in
     let tested = fault .before in
-    let spaced = tested .before .before in
+    let sought = tested .before in
+    let spaced = sought .before .before in
     let k = spaced .before in
     let read = k .before .before .before in
     let i = read .before .loop .inv in
     refuses _ _ _ _ (c .no-chars2 .ensures)
-    (strange _ _ _ _ _ (i .2) _ (read .char-at .ensures .0) _ _ (k .before .c .given .1) (wide k .0) (sym (spaced .is-space .ensures) ∙ tested .before .if2 .left)
-    (tested .if3 .taken) _ (fault .foreign-fault .ensures))
+    (strange _ _ _ _ _ (i .2) _ (read .char-at .ensures .0) _ _ (k .before .c .given .1) (wide k .0) (sym (spaced .is-space .ensures) ∙ sought .before .if2 .left)
+    (told (sought .is-tabled .ensures) (not-true _ (tested .if3 .taken))) _ (fault .foreign-fault .ensures))
 
 coded-char-requires : tie.Need-coded-char-requires Inv-loop μ-loop
 coded-char-requires c κs =
-    let k = c .before .before .before in
+    let k = c .before .before .before .before in
     let turn = k .before .before .before .before in
     let entry = turn .before .before .before .before in entry .pre
 
@@ -114,29 +124,30 @@ mul-chars : tie.Need-mul-chars Inv-loop μ-loop
 mul-chars c = omega arith
 
 array-write-chars : tie.Need-array-write-chars Inv-loop μ-loop
-array-write-chars c = few (c .before .before .before .before)
+array-write-chars c = few (character c)
 
 add-count : tie.Need-add-count Inv-loop μ-loop
-add-count c = let w = few (c .before .before .before .before) in omega arith
+add-count c = let w = few (character c) in omega arith
 
 add-at-2 : tie.Need-add-at-2 Inv-loop μ-loop
-add-at-2 c = let w = wide (c .before .before .before .before) in omega arith
+add-at-2 c = let w = wide (character c) in omega arith
 
 loop-less-2 : tie.Need-loop-less-2 Inv-loop μ-loop
-loop-less-2 c = let w = wide (c .before .before .before .before) in omega arith
+loop-less-2 c = let w = wide (character c) in omega arith
 
 loop-again-2 : tie.Need-loop-again-2 Inv-loop μ-loop
 loop-again-2 c =
     let tested = c .before in
-    let spaced = tested .before .before in
+    let sought = tested .before in
+    let spaced = sought .before .before in
     let k = spaced .before in
     let read = k .before .before .before in
     let i = read .before .loop .inv in
     let w = wide k in (
       omega arith,
       w .1,
-      kept _ _ _ _ _ (i .2) _ (read .char-at .ensures .0) _ _ (k .before .c .given .1) (w .0) (sym (spaced .is-space .ensures) ∙ tested .before .if2 .left)
-          (tested .if3 .left) (few k) _ (c .coded-char .ensures),
+      kept _ _ _ _ _ (i .2) _ (read .char-at .ensures .0) _ _ (k .before .c .given .1) (w .0) (sym (spaced .is-space .ensures) ∙ sought .before .if2 .left)
+          (told (sought .is-tabled .ensures) (not-false _ (tested .if3 .left))) (few k) _ (c .coded-char .ensures),
     )
 
 enum-told : tie.Need-enum-told Inv-loop μ-loop
@@ -163,7 +174,7 @@ returns-4 c =
     let turn = ended .before .before .before in
     let l = turn .loop in
     let n = turn .before .if1 .left in
-    let fits : l .count ≤ 256 = omega arith in
+    let fits : l .count ≤ mostName = omega arith in
     rw (c .with-chars .ensures) (record { is = end _ _ _ _ _ (l .inv .2) (behind ended); few = fits; long = whole _ _ _ _ _ (l .inv .2) fits })
 
 pub prepare-spec : {M : Type 1} → statement M
@@ -181,6 +192,7 @@ prepare-spec =
     add-at
     loop-less
     loop-again
+    is-tabled-requires
     foreign-fault-requires
     no-chars-requires-2
     returns-2
