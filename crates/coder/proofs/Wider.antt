@@ -18,7 +18,7 @@ keep-wider t [] [] w = tt
 keep-wider t [] (q ∷ qs) w = absurd w
 keep-wider t (r ∷ rs) [] w = absurd w
 keep-wider t (r ∷ rs) (q ∷ qs) w =
-    subst (λ (b : Bool). WiderRules (keep (λ x. t (letters x)) (r ∷ rs)) (cond b (q ∷ keep (λ x. t (letters x)) qs) (keep (λ x. t (letters x)) qs))) (sym (same (w .0 .0)))
+    subst (λ (b : Bool). WiderRules (keep (λ x. t (letters x)) (r ∷ rs)) (cond b (q ∷ keep (λ x. t (letters x)) qs) (keep (λ x. t (letters x)) qs))) (sym (same (w .0 .same)))
     (go (t (letters r)) (keep-wider t rs qs (w .1)))
   where
     same : q .pattern ≡ r .pattern → t (letters q) ≡ t (letters r)
@@ -36,7 +36,7 @@ WiderOption (some r) none = ⊥
 WiderOption (some r) (some q) = WiderRule r q
 
 letters-same : (r q : Rule) → WiderRule r q → letters q ≡ letters r
-letters-same r q w i = letters (record { pattern = w .0 i; start = []; vowel = []; other = [] })
+letters-same r q w i = letters (record { pattern = w .same i; start = []; vowel = []; other = [] })
 
 longest-wider : (rs qs : List Rule) → WiderRules rs qs → WiderOption (longest rs) (longest qs)
 longest-wider [] [] w = tt
@@ -58,12 +58,12 @@ longest-wider (r ∷ rs) (q ∷ qs) w = go (longest rs) (longest qs) (longest-wi
         (pick x y h (ltb (length (letters r)) (length (letters x))))
 
 field-wider : (before : Option ℕ) (behind : List ℕ) (r q : Rule) → WiderRule r q → Further (field before behind r) (field before behind q)
-field-wider none behind r q w = w .1
+field-wider none behind r q w = w .start
 field-wider (some b) behind r q w = go (vowelFollows behind)
   where
     go : (v : Bool) → Further (cond v (r .vowel) (r .other)) (cond v (q .vowel) (q .other))
-    go true = w .2
-    go false = w .3
+    go true = w .vowel
+    go false = w .other
 
 abbrev WiderPassed : Passed → Passed → Type 0
 WiderPassed p q = Wider (p .uses) (q .uses) × (q .before ≡ p .before) × (q .skip ≡ p .skip)

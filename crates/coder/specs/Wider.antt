@@ -9,8 +9,11 @@ use Rattle.plate.specs.Plate.{Rule}
 abbrev pub Further : List (List ℕ) → List (List ℕ) → Type 0
 Further old new = (more : List (List ℕ)) × (new ≡ old ++ more)
 
-abbrev pub WiderRule : Rule → Rule → Type 0
-WiderRule r q = (q .pattern ≡ r .pattern) × Further (r .start) (q .start) × Further (r .vowel) (q .vowel) × Further (r .other) (q .other)
+pub record WiderRule (r q : Rule) : Type 0 where
+  pub same : q .pattern ≡ r .pattern
+  pub start : Further (r .start) (q .start)
+  pub vowel : Further (r .vowel) (q .vowel)
+  pub other : Further (r .other) (q .other)
 
 abbrev pub WiderRules : List Rule → List Rule → Type 0
 WiderRules [] [] = Unit {0}

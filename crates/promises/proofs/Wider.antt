@@ -23,7 +23,7 @@ put-wider r r′ [] [] h w = (h, tt)
 put-wider r r′ [] (q ∷ qs) h w = absurd w
 put-wider r r′ (q ∷ qs) [] h w = absurd w
 put-wider r r′ (q ∷ qs) (q′ ∷ qs′) h w =
-    subst (λ (t : Bool). WiderRules (putRule r (q ∷ qs)) (cond t (q′ ∷ putRule r′ qs′) (r′ ∷ q′ ∷ qs′))) (sym (may-same q r q′ r′ (w .0 .0) (h .0)))
+    subst (λ (t : Bool). WiderRules (putRule r (q ∷ qs)) (cond t (q′ ∷ putRule r′ qs′) (r′ ∷ q′ ∷ qs′))) (sym (may-same q r q′ r′ (w .0 .same) (h .same)))
     (go (mayPrecede q r) (put-wider r r′ qs qs′ h (w .1)))
   where
     go : (t : Bool) → WiderRules (putRule r qs) (putRule r′ qs′) → WiderRules (cond t (q ∷ putRule r qs) (r ∷ q ∷ qs)) (cond t (q′ ∷ putRule r′ qs′) (r′ ∷ q′ ∷ qs′))

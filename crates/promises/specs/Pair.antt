@@ -42,8 +42,11 @@ unfolding splitAt entry quadruplet folding multilineComment endOfLine ending com
 pair = (
   refl,
   (
-    (refl, (bytes "5" ∷ [], refl), (bytes "3" ∷ [], refl), (bytes "1" ∷ [], refl)),
-    ((refl, ([], refl), ([], refl), ([] ∷ [], refl)), ((refl, (bytes "8" ∷ [], refl), ([], refl), ([] ∷ [], refl)), tt)),
+    record { same = refl; start = (bytes "5" ∷ [], refl); vowel = (bytes "3" ∷ [], refl); other = (bytes "1" ∷ [], refl) },
+    (
+      record { same = refl; start = ([], refl); vowel = ([], refl); other = ([] ∷ [], refl) },
+      (record { same = refl; start = (bytes "8" ∷ [], refl); vowel = ([], refl); other = ([] ∷ [], refl) }, tt),
+    ),
   ),
 )
 
