@@ -8,7 +8,7 @@ use lib.Dec.{ltb, leb, eqb}
 use lib.ListN.{length}
 use Rattle.laws.specs.Lists.{every, splitAt}
 use Rattle.chars.specs.Digits.{isAlternative}
-use Rattle.plate.specs.Plate.{Folding, Rule, Plate, mostFoldings, mayPrecede}
+use Rattle.plate.specs.Plate.{Folding, Rule, Plate, mostBytes, mostAlternatives, mostFoldings, mayPrecede}
 use Rattle.plate.specs.Most.{mostRules}
 
 pub record Book : Type 0 where
@@ -56,12 +56,12 @@ firstFault (suc n ∷ more) = suc n
 
 -- 6: "a field with over 8 alternatives"; 7: "an alternative that is not 0 to 6 ASCII digits"; "6 before 7 in each field"
 abbrev pub fieldFault : List (List ℕ) → ℕ
-fieldFault f = cond (leb (length f) 8) (cond (every isAlternative f) 0 7) 6
+fieldFault f = cond (leb (length f) mostAlternatives) (cond (every isAlternative f) 0 7) 6
 
 -- a rule behind so many others: "4, 5, then the three fields left to right (6 before 7 in each field), then 8"; 02, M-106: "Refusal 8 now means rule 1,501"
 abbrev pub ruleFault : Rule → ℕ → ℕ
 ruleFault r rules =
-    firstFault (when (eqb (length (r .pattern)) 0) 4 ∷ when (ltb 16 (length (r .pattern))) 5 ∷ fieldFault (r .start) ∷ fieldFault (r .vowel) ∷ fieldFault (r .other)
+    firstFault (when (eqb (length (r .pattern)) 0) 4 ∷ when (ltb mostBytes (length (r .pattern))) 5 ∷ fieldFault (r .start) ∷ fieldFault (r .vowel) ∷ fieldFault (r .other)
     ∷ when (leb mostRules rules) 8 ∷ [])
 
 -- a folding behind others, 8: "the 129th distinct folding key"

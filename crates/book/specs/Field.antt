@@ -7,20 +7,21 @@ use lib.Dec.{leb}
 use lib.ListN.{length, drop}
 use Rattle.laws.specs.Lists.{every, until}
 use Rattle.chars.specs.Digits.{isAlternative}
+use Rattle.plate.specs.Plate.{mostAlternatives}
 use Rattle.book.specs.Book.{fieldFault}
 use Rattle.book.specs.declared.Alternatives.{Alternatives}
 use Rattle.book.specs.declared.Alternatives.the-variants.{Many, TooMany, NotDigits}
 
 -- "6 before 7 in each field"
 abbrev pub parsed : List (List ℕ) → Alternatives
-parsed f = cond (leb (length f) 8) (cond (every isAlternative f) (Many (length f)) NotDigits) TooMany
+parsed f = cond (leb (length f) mostAlternatives) (cond (every isAlternative f) (Many (length f)) NotDigits) TooMany
 
 -- what each answer says of the field: its number, and how many alternatives there are
 pub record Fine (f : List (List ℕ)) (n : ℕ) : Type 0 where
   pub fault : fieldFault f ≡ 0
   pub is : n ≡ length f
   pub one : 1 ≤ n
-  pub few : n ≤ 8
+  pub few : n ≤ mostAlternatives
 
 abbrev pub Says : List (List ℕ) → Alternatives → Type 0
 Says f (Many n) = Fine f n

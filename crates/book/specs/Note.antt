@@ -5,8 +5,8 @@ use mathlib.Core.Path.{_≡_}
 use mathlib.Core.List.{List, [], _∷_, _++_, map}
 use lib.ListN.{length, take, drop}
 use Rattle.laws.specs.Lists.{cat}
-use Rattle.plate.specs.Plate.{Rule, firstCode, mostFoldings}
-use Rattle.plate.specs.Most.{mostRules}
+use Rattle.plate.specs.Plate.{Rule, firstCode, mostBytes, mostFoldings}
+use Rattle.plate.specs.Most.{fieldMost, ruleMost, mostRules}
 use Rattle.plate.specs.Written.{fieldBits, ruleBits}
 use Rattle.book.specs.Book.{Book, fieldFault, ruleFault}
 use Rattle.book.specs.Sort.{Rising, insert, putPair, foldingIn, PairsHeld}
@@ -20,11 +20,19 @@ use Rattle.book.specs.declared.note.Judged.the-variants as Judged
 
 -- ---- a rule as one number: first code point rising, byte length falling, place rising
 
+-- a rule's place is below this
+abbrev pub places : ℕ
+places = 65536
+
+-- a pattern's length, in 5 bits, is below this
+abbrev pub lengths : ℕ
+lengths = 32
+
 abbrev pub key : ℕ → ℕ → ℕ → ℕ
-key c n at = (c * 32 + (16 - n)) * 65536 + at
+key c n at = (c * lengths + (mostBytes - n)) * places + at
 
 abbrev pub placeIn : ℕ → ℕ
-placeIn k = k % 65536
+placeIn k = k % places
 
 abbrev pub keyOf : Rule → ℕ → ℕ
 keyOf r at = key (firstCode r) (length (r .pattern)) at
@@ -53,7 +61,7 @@ pub record KeysHeld (tally : Tally) (keys : List ℕ) : Type 0 where
   pub few : tally .rules ≤ mostRules
   pub room : length keys ≡ mostRules
   pub sorted : Rising (take (tally .rules) keys)
-  pub fewBits : tally .bits ≤ 793 * tally .rules
+  pub fewBits : tally .bits ≤ ruleMost * tally .rules
 
 -- what is noted of the rules before a place, and of foldings
 pub record Kept (view : ℕ → Rule) (at : ℕ) (tally : Tally) (keys foldings : List ℕ) : Type 0 where
@@ -77,11 +85,11 @@ flawNumber NotDigits = 7
 flawNumber TooMany = 8
 
 abbrev pub FieldIs : List (List ℕ) → Judged → Type 0
-FieldIs f (Judged.Fine bits) = (fieldFault f ≡ 0) × (bits ≡ length (fieldBits f)) × (bits ≤ 220)
+FieldIs f (Judged.Fine bits) = (fieldFault f ≡ 0) × (bits ≡ length (fieldBits f)) × (bits ≤ fieldMost)
 FieldIs f (Judged.Wrong flaw) = fieldFault f ≡ flawNumber flaw
 
 abbrev pub RuleIs : Rule → ℕ → Judged → Type 0
-RuleIs r n (Judged.Fine bits) = (ruleFault r n ≡ 0) × (bits ≡ length (ruleBits r)) × (bits ≤ 793)
+RuleIs r n (Judged.Fine bits) = (ruleFault r n ≡ 0) × (bits ≡ length (ruleBits r)) × (bits ≤ ruleMost)
 RuleIs r n (Judged.Wrong flaw) = ruleFault r n ≡ flawNumber flaw
 
 -- one rule more, of so many bits
@@ -95,7 +103,7 @@ folded tally n = record { rules = tally .rules; foldings = n; bits = tally .bits
 -- a rule goes in among the others
 pub record RuleIn (r : Rule) (at : ℕ) (tally : Tally) (keys keys′ : List ℕ) (t : Tally) : Type 0 where
   pub fine : ruleFault r (tally .rules) ≡ 0
-  pub few : length (ruleBits r) ≤ 793
+  pub few : length (ruleBits r) ≤ ruleMost
   pub keyed : keys′ ≡ insert (keyOf r at) (take (tally .rules) keys) ++ drop (tally .rules + 1) keys
   pub told : t ≡ ruled tally (length (ruleBits r))
 

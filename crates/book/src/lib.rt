@@ -9,6 +9,9 @@ pub mod write; // write.rt: what is noted, as a plate's bits
 // A rule's place is below this.
 pub const PLACES: u64 = 65536;
 
+// A pattern's length, in 5 bits, is below this.
+const LENGTHS: u64 = 32;
+
 // A folding's target, in 21 bits, is below this.
 const TARGETS: u64 = 2097152;
 

@@ -5,11 +5,13 @@ ghost use Prim.Native.Nat.{_≤_, _<_};
 ghost use lib.ListN.{length};
 ghost use Rattle.laws.specs.Lists.{splitAt};
 ghost use Rattle.chars.specs.Utf8.{charOf, codeOf};
+ghost use Rattle.plate.specs.Plate.{mostBytes};
 ghost use Rattle.book.specs.Book.{ruleOf};
 ghost use Rattle.book.specs.Sort.{PairsHeld};
-ghost use Rattle.book.specs.Note.{key, FieldIs, RuleIs, KeysHeld, RuleNoted, FoldingNoted};
+ghost use Rattle.book.specs.Note.{places, key, FieldIs, RuleIs, KeysHeld, RuleNoted, FoldingNoted};
 use super::Alternatives;
 use super::Flaw;
+use super::LENGTHS;
 use super::LONGEST_PATTERN;
 use super::Noted;
 use super::PLACES;
@@ -93,11 +95,11 @@ fn wide(c: u32) -> u64
 
 // A rule as one number, so that keys stand as 01 orders rules: "by first code point rising, then byte length falling, then text order".
 fn key_of(pattern: &[u8], at: usize) -> u64
-    requires { ⌜ (length (now pattern) ≤ 16) × (at < 65536) ⌝ }
+    requires { ⌜ (length (now pattern) ≤ mostBytes) × (at < places) ⌝ }
     ensures { λ r. ⌜ r ≡ key (codeOf (charOf (now (pattern .entry)))) (length (now (pattern .entry))) at ⌝ }
 {
     let code = wide(first_code(pattern));
-    (code * 32 + (LONGEST_PATTERN - pattern.len()) as u64) * PLACES + at as u64
+    (code * LENGTHS + (LONGEST_PATTERN - pattern.len()) as u64) * PLACES + at as u64
 }
 
 // A rule of four parts at a place of the driver's, its fields split at `sep`.
@@ -111,7 +113,7 @@ pub fn note_rule(
     other: &[u8],
     sep: u8,
 ) -> Noted
-    requires { ⌜ KeysHeld tally (now keys) × (at < 65536) ⌝ }
+    requires { ⌜ KeysHeld tally (now keys) × (at < places) ⌝ }
     ensures { λ r. ⌜ RuleNoted (ruleOf sep (now (pattern .entry)) (now (start .entry)) (now (vowel .entry)) (now (other .entry))) at tally (now (keys .entry)) (now (keys .exit)) r ⌝ }
 {
     match measure_rule(pattern, start, vowel, other, sep, tally.rules) {

@@ -7,8 +7,8 @@ ghost use Rattle.rule_text.specs.Answers.{FourIn};
 ghost use Rattle.plate.specs.Plate.{mostFoldings};
 ghost use Rattle.plate.specs.Most.{mostRules};
 ghost use Rattle.book.specs.Book.{blank};
-ghost use Rattle.book.specs.Note.{KeysHeld, RuleNoted};
-ghost use Rattle.builder.specs.Build.{verdict};
+ghost use Rattle.book.specs.Note.{places, KeysHeld, RuleNoted};
+ghost use Rattle.builder.specs.Build.{longestText, verdict};
 ghost use Rattle.builder.specs.Survey.{ruleIn, turnOf, SoFar, TurnIs, SurveyIs};
 use super::BAR;
 use super::Fault;
@@ -35,7 +35,7 @@ pub enum Surveyed {
 
 // The rule in front of the rest, which begins at a place.
 fn note_four(keys: &mut [u64], tally: Tally, at: usize, rest: &[u8], four: Four) -> Noted
-    requires { ⌜ KeysHeld tally (now keys) × (at < 65536) × FourIn (length (now rest)) four ⌝ }
+    requires { ⌜ KeysHeld tally (now keys) × (at < places) × FourIn (length (now rest)) four ⌝ }
     ensures { λ r. ⌜ RuleNoted (ruleIn (now (rest .entry)) four) at tally (now (keys .entry)) (now (keys .exit)) r ⌝ }
 {
     let pattern = bytes_in(rest, four.pattern);
@@ -73,7 +73,7 @@ fn enter(text: &[u8], keys: &mut [u64], foldings: &mut [u64], at: usize, tally: 
 
 // All items of a text.
 pub(crate) fn survey(text: &[u8], keys: &mut [u64], foldings: &mut [u64]) -> Surveyed
-    requires { ⌜ (length (now text) ≤ 65536) × (length (now keys) ≡ mostRules) × (length (now foldings) ≡ mostFoldings) ⌝ }
+    requires { ⌜ (length (now text) ≤ longestText) × (length (now keys) ≡ mostRules) × (length (now foldings) ≡ mostFoldings) ⌝ }
     ensures { λ r. ⌜ SurveyIs (now (text .entry)) (now (keys .exit)) (now (foldings .exit)) (verdict blank (items (now (text .entry)))) r ⌝ }
 {
     let mut at: usize = 0;
