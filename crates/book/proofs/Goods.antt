@@ -1,17 +1,17 @@
 -- A book stays good: a rule without fault whose pattern is text without zero bytes is good, and so is what it is put among; a folding likewise. Assumes nothing.
-use Prim.Native.Nat.{ℕ, _<_, _≤_}
+use Prim.Native.Nat.{ℕ, _+_, _<_, _≤_}
 use mathlib.Core.Path.{_≡_, refl}
-use mathlib.Core.Bool.{Bool, true, _&&_}
+use mathlib.Core.Bool.{Bool, true, false, cond, _&&_}
 use mathlib.Core.List.{List, []}
 use native.Mathlib.Omega.{arith}
 use borrow.Author.Tests.{ltb-false, leb-true, le-leb}
 use lib.Dec.{ltb, leb, lit<}
 use lib.ListN.{length}
-use Rattle.laws.specs.Lists.{every, splitAt}
+use Rattle.laws.specs.Lists.{every, some, splitAt}
 use Rattle.laws.proofs.Tests.{and-true, both-true, is-between}
 use Rattle.laws.proofs.Splits.{one-part}
 use Rattle.chars.specs.Utf8.{isText}
-use Rattle.plate.specs.Plate.{Folding, Rule, mostFoldings, goodField, nonzeroByte, goodRule, goodFolding, rising, ordered, goodFoldings, goodPlate}
+use Rattle.plate.specs.Plate.{Folding, Rule, mostFoldings, goodField, nonzeroByte, goodRule, goodFolding, rising, ordered, goodFoldings, goodPlate, ofPattern}
 use Rattle.plate.specs.Most.{mostRules}
 use Rattle.plate.proofs.Round.{is-good}
 use Rattle.book.specs.Book.{Book, blank, ruleOf, putRule, putFolding, withRule, withFolding, plateOf, fieldFault, ruleFault, foldingFault}
@@ -36,30 +36,37 @@ rule-good sep p s v o n c e =
 
 -- its plate obeys the table
 pub record Good (b : Book) : Type 0 where
-  pub few : length (b .rules) ≤ mostRules
+  pub few : length (b .rules) ≤ b .read
+  pub fewRead : b .read ≤ mostRules
   pub rules : every goodRule (b .rules) ≡ true
   pub order : ordered (b .rules) ≡ true
   pub foldings : goodFoldings (b .foldings) ≡ true
 
 pub blank-good : Good blank
-blank-good = record { few = omega arith; rules = refl; order = refl; foldings = refl }
+blank-good = record { few = omega arith; fewRead = omega arith; rules = refl; order = refl; foldings = refl }
 
 pub plate-good : (flag : Bool) (b : Book) → Good b → goodPlate (plateOf flag b) ≡ true
-plate-good flag b g = is-good (plateOf flag b) (record { few = g .few; rules = g .rules; order = g .order; foldings = g .foldings })
+plate-good flag b g = let few = g .few in let all = g .fewRead in is-good (plateOf flag b) (record { few = omega arith; rules = g .rules; order = g .order; foldings = g .foldings })
 
 pub with-rule-good : (sep : ℕ) (p s v o : List ℕ) (b : Book) → (isText p ≡ true) × (every nonzeroByte p ≡ true)
-    → ruleFault (ruleOf sep p s v o) (length (b .rules)) ≡ 0 → Good b → Good (withRule (ruleOf sep p s v o) b)
-with-rule-good sep p s v o b c e g =
-    let r = ruleOf sep p s v o in
-    let l = b .rules in
-    let k = rule-good sep p s v o (length l) c e in
-    let h = k .1 in
-    record {
-      few = omega (arith, h, put-length r l);
-      rules = put-every goodRule r l (k .0) (g .rules);
-      order = put-ordered r l (g .order);
-      foldings = g .foldings;
-    }
+    → ruleFault (ruleOf sep p s v o) (b .read) ≡ 0 → Good b → Good (withRule (ruleOf sep p s v o) b)
+with-rule-good sep p s v o b c e g = go (some (ofPattern p) (b .rules))
+  where
+    go : (known : Bool) → Good (record { foldings = b .foldings; rules = cond known (b .rules) (putRule (ruleOf sep p s v o) (b .rules)); read = b .read + 1 })
+    go true =
+        let h = rule-good sep p s v o (b .read) c e .1 in
+        let few = g .few in record { few = omega arith; fewRead = omega arith; rules = g .rules; order = g .order; foldings = g .foldings }
+    go false =
+        let k = rule-good sep p s v o (b .read) c e in
+        let h = k .1 in
+        let few = g .few in
+        record {
+          few = omega (arith, few, put-length (ruleOf sep p s v o) (b .rules));
+          fewRead = omega arith;
+          rules = put-every goodRule (ruleOf sep p s v o) (b .rules) (k .0) (g .rules);
+          order = put-ordered (ruleOf sep p s v o) (b .rules) (g .order);
+          foldings = g .foldings;
+        }
 
 pub with-folding-good : (f : Folding) (b : Book) → goodFolding f ≡ true → foldingFault f (b .foldings) ≡ 0 → Good b → Good (withFolding f b)
 with-folding-good f b g e k =
@@ -68,4 +75,4 @@ with-folding-good f b g e k =
     let few = ltb-false mostFoldings n (not-when (ltb mostFoldings n) 8 (lit< tt) e) in
     let x = and-true (leb (length l) mostFoldings) (every goodFolding l && rising l) (k .foldings) in
     let y = and-true (every goodFolding l) (rising l) (x .1) in
-    record { few = k .few; rules = k .rules; order = k .order; foldings = both-true (le-leb n 128 few) (both-true (put-each goodFolding f l g (y .0)) (put-rising f l (y .1))) }
+    record { few = k .few; fewRead = k .fewRead; rules = k .rules; order = k .order; foldings = both-true (le-leb n 128 few) (both-true (put-each goodFolding f l g (y .0)) (put-rising f l (y .1))) }

@@ -1,6 +1,6 @@
 -- Rules and foldings as numbers stand in the order of what they stand for: a key goes where its rule goes, a folding's number where the folding goes.
 -- Assumes nothing.
-use Prim.Native.Nat.{ℕ, zero, suc, _+_, _*_, _/_, _%_, _<_, _≤_}
+use Prim.Native.Nat.{ℕ, zero, suc, _+_, _-_, _*_, _/_, _%_, _<_, _≤_}
 use mathlib.Core.Path.{_≡_, refl, sym, _∙_, ap, ap₂}
 use mathlib.Core.Bool.{Bool, true, false, cond, _&&_, _||_, false≢true}
 use mathlib.Core.List.{List, [], _∷_, _++_, map}
@@ -9,27 +9,35 @@ use borrow.Author.Tests.{lt-ltb, le-ltb, ltb-true, ltb-false, leb-true, leb-fals
 use lib.Dec.{ltb, leb, eqb}
 use lib.ListN.{length, take, drop, getD, length-append, length-drop}
 use lib.Seq.{length-take-le, take-append-seam}
-use Rattle.plate.specs.Plate.{Folding, Rule, firstCode, mayPrecede}
+use Rattle.plate.specs.Plate.{Folding, Rule, firstCode, mostBytes, mayPrecede}
 use Rattle.book.specs.Book.{foldingOf, putRule, putFolding}
 use Rattle.book.specs.Sort.{insert, paired, putPair, foldingIn, Small, AllSmall}
-use Rattle.book.specs.Note.{key, placeIn, keyOf, rulesIn, Sure, AllSure}
+use Rattle.book.specs.Seen.{hashes, hashOf, mayHold}
+use Rattle.book.specs.Note.{places, lengths, key, placeIn, hashIn, keyOf, rulesIn, Sure, AllSure, AllMarked}
 use Rattle.book.proofs.Faults.{clean}
+use Rattle.book.proofs.Hashes.{hash-small}
 
 -- ---- the order of keys
 
-pub key-place : (c n at : ℕ) → at < 65536 → placeIn (key c n at) ≡ at
-key-place c n at h = omega arith
+-- What a key holds.
+pub key-place : (c n at hash : ℕ) → at < places → hash < hashes → placeIn (key c n at hash) ≡ at
+key-place c n at hash h g =
+    let K = (c * lengths + (mostBytes - n)) * places + at in
+    let e : key c n at hash / hashes ≡ K = omega arith in ap (λ (m : ℕ). m % places) e ∙ omega arith
+
+pub key-hash : (c n at hash : ℕ) → hash < hashes → hashIn (key c n at hash) ≡ hash
+key-hash c n at hash g = omega arith
 
 -- Of two keys the earlier in the text is below the later where its rule may precede the other.
-key-order : (c n at c2 n2 at2 : ℕ) → n ≤ 16 → n2 ≤ 16 → at < at2 → at2 < 65536
-    → ltb (key c n at) (key c2 n2 at2) ≡ ltb c c2 || (eqb c c2 && leb n2 n)
-key-order c n at c2 n2 at2 h h2 i j = go (ltb c c2) refl (eqb c c2) refl (leb n2 n) refl
+key-order : (c n at hash c2 n2 at2 hash2 : ℕ) → n ≤ mostBytes → n2 ≤ mostBytes → at < at2 → at2 < places → hash < hashes → hash2 < hashes
+    → ltb (key c n at hash) (key c2 n2 at2 hash2) ≡ ltb c c2 || (eqb c c2 && leb n2 n)
+key-order c n at hash c2 n2 at2 hash2 h h2 i j small small2 = go (ltb c c2) refl (eqb c c2) refl (leb n2 n) refl
   where
-    go : (x : Bool) → ltb c c2 ≡ x → (y : Bool) → eqb c c2 ≡ y → (z : Bool) → leb n2 n ≡ z → ltb (key c n at) (key c2 n2 at2) ≡ x || (y && z)
-    go true e y f z g = lt-ltb (key c n at) (key c2 n2 at2) (omega (arith, ltb-true c c2 e))
-    go false e true f true g = lt-ltb (key c n at) (key c2 n2 at2) (omega (arith, eqb-true c c2 f, leb-true n2 n g))
-    go false e true f false g = le-ltb (key c n at) (key c2 n2 at2) (omega (arith, eqb-true c c2 f, leb-false n2 n g))
-    go false e false f z g = let d = eqb-false c c2 f in le-ltb (key c n at) (key c2 n2 at2) (omega (arith, ltb-false c c2 e))
+    go : (x : Bool) → ltb c c2 ≡ x → (y : Bool) → eqb c c2 ≡ y → (z : Bool) → leb n2 n ≡ z → ltb (key c n at hash) (key c2 n2 at2 hash2) ≡ x || (y && z)
+    go true e y f z g = lt-ltb (key c n at hash) (key c2 n2 at2 hash2) (omega (arith, ltb-true c c2 e))
+    go false e true f true g = lt-ltb (key c n at hash) (key c2 n2 at2 hash2) (omega (arith, eqb-true c c2 f, leb-true n2 n g))
+    go false e true f false g = le-ltb (key c n at hash) (key c2 n2 at2 hash2) (omega (arith, eqb-true c c2 f, leb-false n2 n g))
+    go false e false f z g = let d = eqb-false c c2 f in le-ltb (key c n at hash) (key c2 n2 at2 hash2) (omega (arith, ltb-false c c2 e))
 
 module _ (view : ℕ → Rule) where
   abbrev read : ℕ → Rule
@@ -60,7 +68,7 @@ module _ (view : ℕ → Rule) where
   short at k s = clean (read k) 0 (s .fine) .short
 
   -- A key goes where its rule goes.
-  pub put-view : (at k : ℕ) (l : List ℕ) → at < 65536 → placeIn k ≡ at → Sure view (at + 1) k → AllSure view at l
+  pub put-view : (at k : ℕ) (l : List ℕ) → at < places → placeIn k ≡ at → Sure view (at + 1) k → AllSure view at l
       → rulesIn view (insert k l) ≡ putRule (view (placeIn k)) (rulesIn view l)
   put-view at k [] h p s a = refl
   put-view at k (x ∷ xs) h p s a = go (ltb x k) (mayPrecede (read x) (read k)) same (put-view at k xs h p s (a .1))
@@ -68,14 +76,14 @@ module _ (view : ℕ → Rule) where
       below : placeIn x < placeIn k
       below = let j = a .0 .before in omega arith
 
-      fits : placeIn k < 65536
+      fits : placeIn k < places
       fits = omega arith
 
       same : ltb x k ≡ mayPrecede (read x) (read k)
       same =
           ap₂ ltb (a .0 .is) (s .is)
-          ∙ key-order (firstCode (read x)) (length (read x .pattern)) (placeIn x) (firstCode (read k)) (length (read k .pattern)) (placeIn k)
-          (short at x (a .0)) (short (at + 1) k s) below fits
+          ∙ key-order (firstCode (read x)) (length (read x .pattern)) (placeIn x) (hashOf (read x .pattern)) (firstCode (read k)) (length (read k .pattern)) (placeIn k) (hashOf (read k .pattern))
+          (short at x (a .0)) (short (at + 1) k s) below fits (hash-small (read x .pattern)) (hash-small (read k .pattern))
 
       go : (t u : Bool) → t ≡ u → rulesIn view (insert k xs) ≡ putRule (read k) (rulesIn view xs)
           → rulesIn view (cond t (x ∷ insert k xs) (k ∷ x ∷ xs)) ≡ cond u (read x ∷ putRule (read k) (rulesIn view xs)) (read k ∷ read x ∷ rulesIn view xs)
@@ -83,6 +91,14 @@ module _ (view : ℕ → Rule) where
       go true false e i = absurd (false≢true (sym e))
       go false true e i = absurd (false≢true e)
       go false false e i = refl
+
+pub marked-insert : (seen : List ℕ) (k : ℕ) (l : List ℕ) → mayHold seen (hashIn k) ≡ true → AllMarked seen l → AllMarked seen (insert k l)
+marked-insert seen k [] m a = (m, tt)
+marked-insert seen k (x ∷ xs) m a = go (ltb x k) (marked-insert seen k xs m (a .1))
+  where
+    go : (t : Bool) → AllMarked seen (insert k xs) → AllMarked seen (cond t (x ∷ insert k xs) (k ∷ x ∷ xs))
+    go true i = (a .0, i)
+    go false i = (m, a)
 
 length-insert : (k : ℕ) (l : List ℕ) → length (insert k l) ≡ suc (length l)
 length-insert k [] = refl

@@ -5,9 +5,11 @@ pub mod Runs
 pub mod Inks
 pub mod Sorted
 pub mod Orders
+pub mod Hashes
 pub mod Keys
 pub mod Measures
 pub mod Scripts
 pub mod Noting
+pub mod Doubles
 pub mod Goods
 pub mod Only

@@ -1,20 +1,20 @@
 -- What is noted stays what was noted before, with one rule or folding more among it. Assumes nothing.
 use Prim.Native.Nat.{ℕ, _+_, _*_, _<_, _≤_}
 use mathlib.Core.Path.{_≡_, refl, sym, _∙_, ap, subst}
-use mathlib.Core.Bool.{Bool}
+use mathlib.Core.Bool.{Bool, true, false, cond}
 use mathlib.Core.List.{List, [], _∷_, _++_, map}
 use native.Mathlib.Omega.{arith}
 use borrow.Author.Tests.{lt-ltb, le-ltb}
 use lib.ListN.{length, take, drop, length-map}
-use lib.Seq.{length-take-le}
-use Rattle.laws.specs.Lists.{cat}
-use Rattle.plate.specs.Plate.{Folding, Rule, firstCode, rising}
+use Rattle.laws.specs.Lists.{some, cat}
+use Rattle.plate.specs.Plate.{Folding, Rule, firstCode, rising, ofPattern}
 use Rattle.plate.specs.Written.{ruleBits}
 use Rattle.plate.specs.Plate.{mostFoldings}
-use Rattle.plate.specs.Most.{mostRules}
+use Rattle.plate.specs.Most.{ruleMost, mostRules}
 use Rattle.book.specs.Book.{Book, blank, foldingOf, putRule, putFolding, withRule, withFolding, when, ruleFault, foldingFault}
 use Rattle.book.specs.Sort.{Rising, insert, putPair, foldingIn, AllSmall, PairsHeld, PutIs}
-use Rattle.book.specs.Note.{key, keyOf, placeIn, rulesIn, Sure, AllSure, bookOf, KeysHeld, Kept, noneNoted, flawNumber, ruled, folded, RuleIs, RuleIn, FoldingNoted}
+use Rattle.book.specs.Seen.{hashOf, slots, mayHold, marked}
+use Rattle.book.specs.Note.{places, key, keyOf, placeIn, hashIn, rulesIn, Sure, AllSure, AllMarked, bookOf, KeysHeld, Kept, noneNoted, flawNumber, ruled, passed, folded, RuleIs, RuleIn, DoubleNoted, FoldingNoted}
 use Rattle.book.specs.declared.Flaw.{Flaw}
 use Rattle.book.specs.declared.Flaw.the-variants.{TooMany}
 use Rattle.book.specs.declared.Tally.{Tally}
@@ -26,14 +26,15 @@ use Rattle.book.proofs.Faults.{clean}
 use Rattle.book.proofs.Measures.{put-bits}
 use Rattle.book.proofs.Sorted.{put-rising}
 use Rattle.book.proofs.Orders.{insert-rising}
-use Rattle.book.proofs.Keys.{key-place, all-later, all-insert, put-view, first-keys, keys-length, put-small, put-folding-view, first-pairs, pairs-length}
+use Rattle.book.proofs.Hashes.{hash-small, still-long, met-new, all-still}
+use Rattle.book.proofs.Keys.{key-place, key-hash, marked-insert, all-later, all-insert, put-view, first-keys, keys-length, put-small, put-folding-view, first-pairs, pairs-length}
 
 -- ---- nothing is noted
 
 pub none-kept : (view : ℕ → Rule) (at : ℕ) (keys foldings : List ℕ) → length keys ≡ mostRules → length foldings ≡ mostFoldings → Kept view at noneNoted keys foldings
 none-kept view at keys foldings k f =
     record {
-      rules = record { few = omega arith; room = k; sorted = tt; fewBits = omega arith };
+      rules = record { few = omega arith; fewRead = omega arith; room = k; sorted = tt; fewBits = omega arith };
       pairs = record { few = omega arith; room = f; small = tt; sorted = refl };
       sure = tt;
       bits = refl;
@@ -45,24 +46,33 @@ module _ (view : ℕ → Rule) (at : ℕ) (tally : Tally) (keys foldings : List 
   abbrev book : Book
   book = bookOf view tally keys foldings
 
-  -- As many rules as are counted.
-  pub rules-counted : length (rulesIn view (take (tally .rules) keys)) ≡ tally .rules
-  rules-counted =
-      let n = k .rules .few in
-      let m = k .rules .room in length-map (take (tally .rules) keys) (λ i. view (placeIn i)) ∙ length-take-le (tally .rules) keys (omega arith)
-
   -- It stays noted behind a later place.
   pub kept-later : (at2 : ℕ) → at ≤ at2 → Kept view at2 tally keys foldings
   kept-later at2 h =
       record { rules = k .rules; pairs = k .pairs; sure = all-later view at at2 (take (tally .rules) keys) h (k .sure); bits = k .bits }
 
+  -- A rule that is left out.
+  module _ (r : Rule) (t : Tally) (q : DoubleNoted r tally (Noted.Fine t)) where
+    pub double-kept : Kept view at t keys foldings
+    double-kept =
+        let n = clean r (tally .read) (q .0) .few in
+        let few = k .rules .few in
+        let held : KeysHeld (passed tally) keys =
+        record { few = omega arith; fewRead = omega arith; room = k .rules .room; sorted = k .rules .sorted; fewBits = k .rules .fewBits } in
+        subst (λ (t : Tally). Kept view at t keys foldings) (sym (q .1)) (record { rules = held; pairs = k .pairs; sure = k .sure; bits = k .bits })
+
+    pub double-noted : some (ofPattern (r .pattern)) (book .rules) ≡ true → bookOf view t keys foldings ≡ withRule r book
+    double-noted known =
+        ap (λ (t : Tally). bookOf view t keys foldings) (q .1)
+        ∙ ap (λ (b : Bool). record { foldings = book .foldings; rules = cond b (book .rules) (putRule r (book .rules)); read = tally .read + 1 }) (sym known)
+
   -- The rule at the place.
-  module _ (r : Rule) (is : view at ≡ r) (h : at < 65536) (keys′ : List ℕ) (t : Tally) (q : RuleIn r at tally keys keys′ t) where
+  module _ (r : Rule) (is : view at ≡ r) (h : at < places) (seen keys′ seen′ : List ℕ) (t : Tally) (q : RuleIn r at tally keys seen keys′ seen′ t) where
     abbrev K : ℕ
     K = keyOf r at
 
     placed : placeIn K ≡ at
-    placed = key-place (firstCode r) (length (r .pattern)) at h
+    placed = key-place (firstCode r) (length (r .pattern)) at (hashOf (r .pattern)) h (hash-small (r .pattern))
 
     viewed : view (placeIn K) ≡ r
     viewed = ap view placed ∙ is
@@ -72,11 +82,11 @@ module _ (view : ℕ → Rule) (at : ℕ) (tally : Tally) (keys foldings : List 
         record {
           is = sym (λ i. keyOf (viewed i) (placed i));
           before = omega (arith, placed);
-          fine = subst (λ (r : Rule). ruleFault r 0 ≡ 0) (sym viewed) (clean r (tally .rules) (q .fine) .first);
+          fine = subst (λ (r : Rule). ruleFault r 0 ≡ 0) (sym viewed) (clean r (tally .read) (q .fine) .first);
         }
 
     fewer : tally .rules < length keys
-    fewer = let n = clean r (tally .rules) (q .fine) .few in let m = k .rules .room in omega arith
+    fewer = let n = clean r (tally .read) (q .fine) .few in let few = k .rules .few in let m = k .rules .room in omega arith
 
     now : take (tally .rules + 1) keys′ ≡ insert K (take (tally .rules) keys)
     now = first-keys keys keys′ (tally .rules) K fewer (q .keyed)
@@ -93,11 +103,13 @@ module _ (view : ℕ → Rule) (at : ℕ) (tally : Tally) (keys foldings : List 
 
     held : KeysHeld (ruled tally (length (ruleBits r))) keys′
     held =
-        let n = clean r (tally .rules) (q .fine) .few in
+        let n = clean r (tally .read) (q .fine) .few in
+        let less = k .rules .few in
         let m = k .rules .fewBits in
         let few = q .few in
         record {
           few = omega arith;
+          fewRead = omega arith;
           room = keys-length keys keys′ (tally .rules) K fewer (q .keyed) ∙ k .rules .room;
           sorted = subst Rising (sym now) (insert-rising K (take (tally .rules) keys) (k .rules .sorted));
           fewBits = omega arith;
@@ -111,8 +123,24 @@ module _ (view : ℕ → Rule) (at : ℕ) (tally : Tally) (keys foldings : List 
     pub rule-kept : Kept view (at + 1) t keys′ foldings
     rule-kept = subst (λ (t : Tally). Kept view (at + 1) t keys′ foldings) (sym (q .told)) (record { rules = held; pairs = k .pairs; sure = all; bits = sums })
 
-    pub rule-noted : bookOf view t keys′ foldings ≡ withRule r (bookOf view tally keys foldings)
-    rule-noted = ap (λ (t : Tally). bookOf view t keys′ foldings) (q .told) ∙ ap (λ (l : List Rule). record { foldings = book .foldings; rules = l }) noted
+    pub rule-noted : some (ofPattern (r .pattern)) (book .rules) ≡ false → bookOf view t keys′ foldings ≡ withRule r book
+    rule-noted new =
+        ap (λ (t : Tally). bookOf view t keys′ foldings) (q .told)
+        ∙ ap (λ (l : List Rule). record { foldings = book .foldings; rules = l; read = tally .read + 1 }) noted
+        ∙ ap (λ (b : Bool). record { foldings = book .foldings; rules = cond b (book .rules) (putRule r (book .rules)); read = tally .read + 1 }) (sym new)
+
+    -- The hashes of all are met.
+    pub rule-met : length seen ≡ slots → AllMarked seen (take (tally .rules) keys) → (length seen′ ≡ slots) × AllMarked seen′ (take (t .rules) keys′)
+    rule-met long a =
+        let H = hashOf (r .pattern) in
+        let held : hashIn K ≡ H = key-hash (firstCode r) (length (r .pattern)) at H (hash-small (r .pattern)) in
+        let one : mayHold (marked seen H) (hashIn K) ≡ true = ap (mayHold (marked seen H)) held ∙ met-new seen H long in
+        let all : AllMarked (marked seen H) (take (tally .rules + 1) keys′) =
+        subst (AllMarked (marked seen H)) (sym now) (marked-insert (marked seen H) K (take (tally .rules) keys) one (all-still seen H long (take (tally .rules) keys) a)) in
+        let as-told : AllMarked (marked seen H) (take (t .rules) keys′) = subst (λ (t : Tally). AllMarked (marked seen H) (take (t .rules) keys′)) (sym (q .told)) all in (
+          ap length (q .met) ∙ still-long seen H long,
+          subst (λ (s : List ℕ). AllMarked s (take (t .rules) keys′)) (sym (q .met)) as-told,
+        )
 
   -- A folding.
   module _ (c target : ℕ) (i : c < 2097152) (j : target < 2097152) where
@@ -151,21 +179,23 @@ module _ (view : ℕ → Rule) (at : ℕ) (tally : Tally) (keys foldings : List 
       pub folding-kept : Kept view at t keys a′
       folding-kept =
           subst (λ (t : Tally). Kept view at t keys a′) (sym (p .2))
-          (record { rules = record { few = k .rules .few; room = k .rules .room; sorted = k .rules .sorted; fewBits = k .rules .fewBits }; pairs = held-pairs; sure = k .sure; bits = k .bits })
+          (record { rules = record { few = k .rules .few; fewRead = k .rules .fewRead; room = k .rules .room; sorted = k .rules .sorted; fewBits = k .rules .fewBits }; pairs = held-pairs; sure = k .sure; bits = k .bits })
 
       pub folding-noted : bookOf view t keys a′ ≡ withFolding (foldingOf c target) (bookOf view tally keys foldings)
       folding-noted =
-          ap (λ (t : Tally). bookOf view t keys a′) (p .2) ∙ ap (λ (l : List Folding). record { foldings = l; rules = book .rules }) (ap (map foldingIn) first ∙ put)
+          ap (λ (t : Tally). bookOf view t keys a′) (p .2) ∙ ap (λ (l : List Folding). record { foldings = l; rules = book .rules; read = tally .read }) (ap (map foldingIn) first ∙ put)
 
 -- ---- as the calls tell it
 
-pub entered : (r : Rule) (at : ℕ) (tally : Tally) (keys keys′ : List ℕ) (bits k : ℕ) → RuleIs r (tally .rules) (Judged.Fine bits)
-    → k ≡ keyOf r at → keys′ ≡ insert k (take (tally .rules) keys) ++ drop (tally .rules + 1) keys → RuleIn r at tally keys keys′ (ruled tally bits)
-entered r at tally keys keys′ bits k j e f =
+pub entered : (r : Rule) (at : ℕ) (tally : Tally) (keys seen keys′ seen′ : List ℕ) (bits k hash : ℕ) → RuleIs r (tally .read) (Judged.Fine bits)
+    → hash ≡ hashOf (r .pattern) → k ≡ key (firstCode r) (length (r .pattern)) at hash → keys′ ≡ insert k (take (tally .rules) keys) ++ drop (tally .rules + 1) keys
+    → seen′ ≡ marked seen hash → RuleIn r at tally keys seen keys′ seen′ (ruled tally bits)
+entered r at tally keys seen keys′ seen′ bits k hash j h e f m =
     record {
       fine = j .0;
-      few = subst (λ (n : ℕ). n ≤ 793) (j .1) (j .2);
-      keyed = f ∙ ap (λ (k : ℕ). insert k (take (tally .rules) keys) ++ drop (tally .rules + 1) keys) e;
+      few = subst (λ (n : ℕ). n ≤ ruleMost) (j .1) (j .2);
+      keyed = f ∙ ap (λ (k : ℕ). insert k (take (tally .rules) keys) ++ drop (tally .rules + 1) keys) (e ∙ ap (key (firstCode r) (length (r .pattern)) at) h);
+      met = m ∙ ap (marked seen) h;
       told = ap (ruled tally) (j .1);
     }
 

@@ -144,7 +144,7 @@ module _ (view : ℕ → Rule) {at : ℕ} (tally : Tally) (keys foldings : List 
   R = cat ruleBits (rulesIn view (take (tally .rules) keys))
 
   rules-length : length (rulesIn view (take (tally .rules) keys)) ≡ tally .rules
-  rules-length = let n = k .rules .few in let m = k .rules .room in length-map (take (tally .rules) keys) (λ i. view (placeIn i)) ∙ length-take-le (tally .rules) keys (omega arith)
+  rules-length = let few = k .rules .few in let n = k .rules .fewRead in let m = k .rules .room in length-map (take (tally .rules) keys) (λ i. view (placeIn i)) ∙ length-take-le (tally .rules) keys (omega arith)
 
   foldings-length : length (map foldingIn (take (tally .foldings) foldings)) ≡ tally .foldings
   foldings-length = let n = k .pairs .few in let m = k .pairs .room in length-map (take (tally .foldings) foldings) foldingIn ∙ length-take-le (tally .foldings) foldings (omega arith)

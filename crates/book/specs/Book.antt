@@ -1,22 +1,24 @@
 -- The book: rules and foldings in the plate's order, what is wrong with one more, and the plate of a book. It knows no form of text. 01, "The plate, bits most
 -- significant first" and, of "Numbers that come back", 4 to 8: "Inside a rule: 4, 5, then the three fields left to right (6 before 7 in each field), then 8."
 -- Assumes nothing.
-use Prim.Native.Nat.{ℕ, zero, suc}
+use Prim.Native.Nat.{ℕ, zero, suc, _+_}
 use mathlib.Core.Bool.{Bool, cond}
 use mathlib.Core.List.{List, [], _∷_}
 use lib.Dec.{ltb, leb, eqb}
 use lib.ListN.{length}
-use Rattle.laws.specs.Lists.{every, splitAt}
+use Rattle.laws.specs.Lists.{every, some, splitAt}
 use Rattle.chars.specs.Digits.{isAlternative}
-use Rattle.plate.specs.Plate.{Folding, Rule, Plate, mostBytes, mostAlternatives, mostFoldings, mayPrecede}
+use Rattle.plate.specs.Plate.{Folding, Rule, ofPattern, Plate, mostBytes, mostAlternatives, mostFoldings, mayPrecede}
 use Rattle.plate.specs.Most.{mostRules}
 
+-- what was read so far: foldings and rules kept, and how many rules were read, kept or not
 pub record Book : Type 0 where
   pub foldings : List Folding
   pub rules : List Rule
+  pub read : ℕ
 
 abbrev pub blank : Book
-blank = record { foldings = []; rules = [] }
+blank = record { foldings = []; rules = []; read = 0 }
 
 -- "Rules stand by first code point rising, then byte length falling, then text order": a rule goes behind all earlier ones that may precede it
 abbrev pub putRule : Rule → List Rule → List Rule
@@ -28,12 +30,16 @@ abbrev pub putFolding : Folding → List Folding → List Folding
 putFolding f [] = f ∷ []
 putFolding f (g ∷ more) = cond (ltb (g .key) (f .key)) (g ∷ putFolding f more) (cond (eqb (g .key) (f .key)) (f ∷ more) (f ∷ g ∷ more))
 
+-- 02, M-107: "A later rule with a pattern already seen is [..] never used. [..] leave it out of what build writes."
+abbrev pub keepRule : Rule → List Rule → List Rule
+keepRule r rs = cond (some (ofPattern (r .pattern)) rs) rs (putRule r rs)
+
 -- the book with one rule more, and with one folding more
 abbrev pub withRule : Rule → Book → Book
-withRule r b = record { foldings = b .foldings; rules = putRule r (b .rules) }
+withRule r b = record { foldings = b .foldings; rules = keepRule r (b .rules); read = b .read + 1 }
 
 abbrev pub withFolding : Folding → Book → Book
-withFolding f b = record { foldings = putFolding f (b .foldings); rules = b .rules }
+withFolding f b = record { foldings = putFolding f (b .foldings); rules = b .rules; read = b .read }
 
 -- a rule of four parts, its fields split at a byte: "an empty field is one empty alternative"
 abbrev pub ruleOf : ℕ → List ℕ → List ℕ → List ℕ → List ℕ → Rule

@@ -1,7 +1,8 @@
 -- What is noted: rules and foldings as numbers, and the bits of the rules; and what the functions that note answer. A rule's number holds its place, at which
 -- the driver reads it again: `view` is that reading. Assumes nothing.
-use Prim.Native.Nat.{ℕ, _+_, _-_, _*_, _%_, _<_, _≤_}
+use Prim.Native.Nat.{ℕ, _+_, _-_, _*_, _/_, _%_, _<_, _≤_}
 use mathlib.Core.Path.{_≡_}
+use mathlib.Core.Bool.{true}
 use mathlib.Core.List.{List, [], _∷_, _++_, map}
 use lib.ListN.{length, take, drop}
 use Rattle.laws.specs.Lists.{cat}
@@ -9,6 +10,7 @@ use Rattle.plate.specs.Plate.{Rule, firstCode, mostBytes, mostFoldings}
 use Rattle.plate.specs.Most.{fieldMost, ruleMost, mostRules}
 use Rattle.plate.specs.Written.{fieldBits, ruleBits}
 use Rattle.book.specs.Book.{Book, fieldFault, ruleFault}
+use Rattle.book.specs.Seen.{hashes, hashOf, mayHold, marked}
 use Rattle.book.specs.Sort.{Rising, insert, putPair, foldingIn, PairsHeld}
 use Rattle.book.specs.declared.Flaw.{Flaw}
 use Rattle.book.specs.declared.Flaw.the-variants.{EmptyPattern, LongPattern, ManyAlternatives, NotDigits, TooMany}
@@ -18,7 +20,7 @@ use Rattle.book.specs.declared.Noted.the-variants as Noted
 use Rattle.book.specs.declared.note.Judged.{Judged}
 use Rattle.book.specs.declared.note.Judged.the-variants as Judged
 
--- ---- a rule as one number: first code point rising, byte length falling, place rising
+-- ---- a rule as one number: first code point rising, byte length falling, place rising; and its pattern's hash, which orders nothing
 
 -- a rule's place is below this
 abbrev pub places : ℕ
@@ -28,14 +30,17 @@ places = 65536
 abbrev pub lengths : ℕ
 lengths = 32
 
-abbrev pub key : ℕ → ℕ → ℕ → ℕ
-key c n at = (c * lengths + (mostBytes - n)) * places + at
+abbrev pub key : ℕ → ℕ → ℕ → ℕ → ℕ
+key c n at hash = ((c * lengths + (mostBytes - n)) * places + at) * hashes + hash
 
 abbrev pub placeIn : ℕ → ℕ
-placeIn k = k % places
+placeIn k = k / hashes % places
+
+abbrev pub hashIn : ℕ → ℕ
+hashIn k = k % hashes
 
 abbrev pub keyOf : Rule → ℕ → ℕ
-keyOf r at = key (firstCode r) (length (r .pattern)) at
+keyOf r at = key (firstCode r) (length (r .pattern)) at (hashOf (r .pattern))
 
 -- the rules of some numbers, by a reading of places
 abbrev pub rulesIn : (ℕ → Rule) → List ℕ → List Rule
@@ -51,14 +56,21 @@ abbrev pub AllSure : (ℕ → Rule) → ℕ → List ℕ → Type 0
 AllSure view at [] = Unit {0}
 AllSure view at (k ∷ ks) = Sure view at k × AllSure view at ks
 
+-- the hash of each is met
+abbrev pub AllMarked : List ℕ → List ℕ → Type 0
+AllMarked seen [] = Unit {0}
+AllMarked seen (k ∷ ks) = (mayHold seen (hashIn k) ≡ true) × AllMarked seen ks
+
 -- ---- the book that is noted
 
 abbrev pub bookOf : (ℕ → Rule) → Tally → List ℕ → List ℕ → Book
-bookOf view tally keys foldings = record { foldings = map foldingIn (take (tally .foldings) foldings); rules = rulesIn view (take (tally .rules) keys) }
+bookOf view tally keys foldings =
+    record { foldings = map foldingIn (take (tally .foldings) foldings); rules = rulesIn view (take (tally .rules) keys); read = tally .read }
 
--- the numbers of the rules stand in order, and no more bits are counted than so many rules can take
+-- the numbers of the rules stand in order, no more than were read, and no more bits are counted than so many rules can take
 pub record KeysHeld (tally : Tally) (keys : List ℕ) : Type 0 where
-  pub few : tally .rules ≤ mostRules
+  pub few : tally .rules ≤ tally .read
+  pub fewRead : tally .read ≤ mostRules
   pub room : length keys ≡ mostRules
   pub sorted : Rising (take (tally .rules) keys)
   pub fewBits : tally .bits ≤ ruleMost * tally .rules
@@ -72,7 +84,7 @@ pub record Kept (view : ℕ → Rule) (at : ℕ) (tally : Tally) (keys foldings 
 
 -- nothing is noted yet
 abbrev pub noneNoted : Tally
-noneNoted = record { rules = 0; foldings = 0; bits = 0 }
+noneNoted = record { read = 0; rules = 0; foldings = 0; bits = 0 }
 
 -- ---- what the functions answer
 
@@ -94,22 +106,32 @@ RuleIs r n (Judged.Wrong flaw) = ruleFault r n ≡ flawNumber flaw
 
 -- one rule more, of so many bits
 abbrev pub ruled : Tally → ℕ → Tally
-ruled tally bits = record { rules = tally .rules + 1; foldings = tally .foldings; bits = tally .bits + bits }
+ruled tally bits = record { read = tally .read + 1; rules = tally .rules + 1; foldings = tally .foldings; bits = tally .bits + bits }
+
+-- one rule more that is read and left out
+abbrev pub passed : Tally → Tally
+passed tally = record { read = tally .read + 1; rules = tally .rules; foldings = tally .foldings; bits = tally .bits }
 
 -- so many foldings
 abbrev pub folded : Tally → ℕ → Tally
-folded tally n = record { rules = tally .rules; foldings = n; bits = tally .bits }
+folded tally n = record { read = tally .read; rules = tally .rules; foldings = n; bits = tally .bits }
 
 -- a rule goes in among the others
-pub record RuleIn (r : Rule) (at : ℕ) (tally : Tally) (keys keys′ : List ℕ) (t : Tally) : Type 0 where
-  pub fine : ruleFault r (tally .rules) ≡ 0
+pub record RuleIn (r : Rule) (at : ℕ) (tally : Tally) (keys seen keys′ seen′ : List ℕ) (t : Tally) : Type 0 where
+  pub fine : ruleFault r (tally .read) ≡ 0
   pub few : length (ruleBits r) ≤ ruleMost
   pub keyed : keys′ ≡ insert (keyOf r at) (take (tally .rules) keys) ++ drop (tally .rules + 1) keys
+  pub met : seen′ ≡ marked seen (hashOf (r .pattern))
   pub told : t ≡ ruled tally (length (ruleBits r))
 
-abbrev pub RuleNoted : Rule → ℕ → Tally → List ℕ → List ℕ → Noted → Type 0
-RuleNoted r at tally keys keys′ (Noted.Fine t) = RuleIn r at tally keys keys′ t
-RuleNoted r at tally keys keys′ (Noted.Refused flaw) = (ruleFault r (tally .rules) ≡ flawNumber flaw) × (keys′ ≡ keys)
+abbrev pub RuleNoted : Rule → ℕ → Tally → List ℕ → List ℕ → List ℕ → List ℕ → Noted → Type 0
+RuleNoted r at tally keys seen keys′ seen′ (Noted.Fine t) = RuleIn r at tally keys seen keys′ seen′ t
+RuleNoted r at tally keys seen keys′ seen′ (Noted.Refused flaw) = (ruleFault r (tally .read) ≡ flawNumber flaw) × (keys′ ≡ keys) × (seen′ ≡ seen)
+
+-- a rule is left out; 02, M-107: "The limit of refusal 8 still counts it, and its fields are still checked"
+abbrev pub DoubleNoted : Rule → Tally → Noted → Type 0
+DoubleNoted r tally (Noted.Fine t) = (ruleFault r (tally .read) ≡ 0) × (t ≡ passed tally)
+DoubleNoted r tally (Noted.Refused flaw) = ruleFault r (tally .read) ≡ flawNumber flaw
 
 abbrev pub FoldingNoted : ℕ → ℕ → Tally → List ℕ → List ℕ → Noted → Type 0
 FoldingNoted c target tally a a′ (Noted.Fine t) =

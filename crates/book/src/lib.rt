@@ -3,11 +3,18 @@
 mod sort; // sort.rt: rules and foldings in the plate's order
 pub mod field; // field.rt: the alternatives of a field
 pub mod note; // note.rt: a rule or a folding noted, or what is wrong with it
+pub mod seen; // seen.rt: which patterns may be among those noted
 pub mod pen; // pen.rt: bits written one behind the other
 pub mod write; // write.rt: what is noted, as a plate's bits
 
 // A rule's place is below this.
 pub const PLACES: u64 = 65536;
+
+// A pattern's hash, in 22 bits, is below this.
+pub const HASHES: u64 = 4194304;
+
+// How many slots tell which hashes were met.
+pub const SLOTS: usize = 4096;
 
 // A pattern's length, in 5 bits, is below this.
 const LENGTHS: u64 = 32;
@@ -37,8 +44,9 @@ pub enum Flaw {
     TooMany,
 }
 
-// What is noted: how many rules and foldings, and the bits of the rules.
+// What is noted: how many rules were read, how many of them and of foldings are kept, and the bits of the rules kept.
 pub struct Tally {
+    pub read: usize,
     pub rules: usize,
     pub foldings: usize,
     pub bits: usize,

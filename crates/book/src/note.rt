@@ -7,16 +7,19 @@ ghost use Rattle.laws.specs.Lists.{splitAt};
 ghost use Rattle.chars.specs.Utf8.{charOf, codeOf};
 ghost use Rattle.plate.specs.Plate.{mostBytes};
 ghost use Rattle.book.specs.Book.{ruleOf};
+ghost use Rattle.book.specs.Seen.{hashes, slots, hashOf};
 ghost use Rattle.book.specs.Sort.{PairsHeld};
-ghost use Rattle.book.specs.Note.{places, key, FieldIs, RuleIs, KeysHeld, RuleNoted, FoldingNoted};
+ghost use Rattle.book.specs.Note.{places, key, FieldIs, RuleIs, KeysHeld, DoubleNoted, RuleNoted, FoldingNoted};
 use super::Alternatives;
 use super::Flaw;
+use super::HASHES;
 use super::LENGTHS;
 use super::LONGEST_PATTERN;
 use super::Noted;
 use super::PLACES;
 use super::Tally;
 use super::field::parse_branch;
+use super::seen::mark;
 use super::sort::Put;
 use super::sort::insert_key;
 use super::sort::put_folding;
@@ -93,18 +96,45 @@ fn wide(c: u32) -> u64
     c as u64
 }
 
-// A rule as one number, so that keys stand as 01 orders rules: "by first code point rising, then byte length falling, then text order".
-fn key_of(pattern: &[u8], at: usize) -> u64
-    requires { ⌜ (length (now pattern) ≤ mostBytes) × (at < places) ⌝ }
-    ensures { λ r. ⌜ r ≡ key (codeOf (charOf (now (pattern .entry)))) (length (now (pattern .entry))) at ⌝ }
+// A rule as one number, so that keys stand as 01 orders rules: "by first code point rising, then byte length falling, then text order". The hash of its pattern
+// stands behind the place, where it orders nothing.
+fn key_of(pattern: &[u8], at: usize, hash: u64) -> u64
+    requires { ⌜ (length (now pattern) ≤ mostBytes) × (at < places) × (hash < hashes) ⌝ }
+    ensures { λ r. ⌜ r ≡ key (codeOf (charOf (now (pattern .entry)))) (length (now (pattern .entry))) at hash ⌝ }
 {
     let code = wide(first_code(pattern));
-    (code * LENGTHS + (LONGEST_PATTERN - pattern.len()) as u64) * PLACES + at as u64
+    let ordered = (code * LENGTHS + (LONGEST_PATTERN - pattern.len()) as u64) * PLACES + at as u64;
+    ordered * HASHES + hash
 }
 
-// A rule of four parts at a place of the driver's, its fields split at `sep`.
+// A rule whose pattern a rule before it has. 02, M-107: "The limit of refusal 8 still counts it, and its fields are still checked".
+pub fn note_double(
+    tally: Tally,
+    pattern: &[u8],
+    start: &[u8],
+    vowel: &[u8],
+    other: &[u8],
+    sep: u8,
+) -> Noted
+    ensures { λ r. ⌜ DoubleNoted (ruleOf sep (now (pattern .entry)) (now (start .entry)) (now (vowel .entry)) (now (other .entry))) tally r ⌝ }
+{
+    match measure_rule(pattern, start, vowel, other, sep, tally.read) {
+        Judged::Wrong(flaw) => Noted::Refused(flaw),
+        Judged::Fine(bits) => {
+            Noted::Fine(Tally {
+                read: tally.read + 1,
+                rules: tally.rules,
+                foldings: tally.foldings,
+                bits: tally.bits,
+            })
+        }
+    }
+}
+
+// A rule of four parts at a place of the driver's, its fields split at `sep`. No rule before it has its pattern, whose hash is told.
 pub fn note_rule(
     keys: &mut [u64],
+    seen: &mut [u8],
     tally: Tally,
     at: usize,
     pattern: &[u8],
@@ -112,15 +142,18 @@ pub fn note_rule(
     vowel: &[u8],
     other: &[u8],
     sep: u8,
+    hash: u64,
 ) -> Noted
-    requires { ⌜ KeysHeld tally (now keys) × (at < places) ⌝ }
-    ensures { λ r. ⌜ RuleNoted (ruleOf sep (now (pattern .entry)) (now (start .entry)) (now (vowel .entry)) (now (other .entry))) at tally (now (keys .entry)) (now (keys .exit)) r ⌝ }
+    requires { ⌜ KeysHeld tally (now keys) × (length (now seen) ≡ slots) × (at < places) × (hash ≡ hashOf (now pattern)) ⌝ }
+    ensures { λ r. ⌜ RuleNoted (ruleOf sep (now (pattern .entry)) (now (start .entry)) (now (vowel .entry)) (now (other .entry))) at tally (now (keys .entry)) (now (seen .entry)) (now (keys .exit)) (now (seen .exit)) r ⌝ }
 {
-    match measure_rule(pattern, start, vowel, other, sep, tally.rules) {
+    match measure_rule(pattern, start, vowel, other, sep, tally.read) {
         Judged::Wrong(flaw) => Noted::Refused(flaw),
         Judged::Fine(bits) => {
-            insert_key(keys, tally.rules, key_of(pattern, at));
+            insert_key(keys, tally.rules, key_of(pattern, at, hash));
+            mark(seen, hash);
             Noted::Fine(Tally {
+                read: tally.read + 1,
                 rules: tally.rules + 1,
                 foldings: tally.foldings,
                 bits: tally.bits + bits,
@@ -138,6 +171,7 @@ pub fn note_folding(foldings: &mut [u64], tally: Tally, key: u32, target: u32) -
         return Noted::Refused(Flaw::TooMany);
     };
     Noted::Fine(Tally {
+        read: tally.read,
         rules: tally.rules,
         foldings: n,
         bits: tally.bits,

@@ -21,7 +21,7 @@ use super::pen::Pen;
 use super::pen::put;
 use plate::edition::head_of;
 
-fn wide(b: u8) -> u64
+pub(crate) fn wide(b: u8) -> u64
     ensures { λ r. ⌜ (r ≡ b) × (r ≤ 255) ⌝ }
 {
     b as u64

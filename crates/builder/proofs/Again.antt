@@ -2,8 +2,10 @@
 -- never noted. Assumes nothing.
 use Prim.Native.Nat.{ℕ}
 use mathlib.Core.Path.{_≡_, sym, _∙_, ap, subst}
+use mathlib.Core.Logic.{_⊎_, ⊎-elim}
 use mathlib.Core.List.{List}
 use native.Mathlib.Omega.{arith}
+use denote.Enum.Declared.{tagOf, declared}
 use lib.ListN.{length, drop}
 use Rattle.laws.proofs.Lists.{rest}
 use Rattle.laws.proofs.Parts.{lent}
@@ -13,6 +15,7 @@ use Rattle.rule_text.specs.Fields.{bar}
 use Rattle.rule_text.specs.declared.Four.{Four}
 use Rattle.rule_text.specs.declared.Entry.{Entry}
 use Rattle.rule_text.specs.declared.Entry.the-variants as E
+use Rattle.rule_text.proofs.Entry.{enum}
 use Rattle.plate.specs.Plate.{Rule}
 use Rattle.book.specs.Book.{ruleOf, ruleFault}
 use Rattle.book.specs.Note.{placeIn, Sure}
@@ -30,6 +33,14 @@ IsRule (E.Folding key target next) = ⊥
 IsRule (E.LineEnd next) = ⊥
 IsRule (E.Comment next) = ⊥
 IsRule E.Unknown = ⊥
+
+-- Where a rule is read again, the other arm is never taken.
+pub other-arm : (r : Entry) → IsRule r → (tagOf (declared enum) r ≡ 1) ⊎ ((tagOf (declared enum) r ≡ 2) ⊎ ((tagOf (declared enum) r ≡ 3) ⊎ (tagOf (declared enum) r ≡ 4))) → ⊥
+other-arm (E.Rule four) f k = ⊎-elim (λ e. omega arith) (λ k. ⊎-elim (λ e. omega arith) (λ k. ⊎-elim (λ e. omega arith) (λ e. omega arith) k) k) k
+other-arm (E.Folding key target next) f k = f
+other-arm (E.LineEnd next) f k = f
+other-arm (E.Comment next) f k = f
+other-arm E.Unknown f k = f
 
 module _ (text : List ℕ) (k : ℕ) {r : Entry} (says : r ≡ entry (lent (placeIn k) text)) where
   abbrev left : List ℕ

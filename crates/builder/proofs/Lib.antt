@@ -1,4 +1,5 @@
 pub mod Goods
+pub mod Patterns
 pub mod Turns
 pub mod Again
 pub mod Replies

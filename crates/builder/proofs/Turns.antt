@@ -2,9 +2,11 @@
 -- Assumes nothing.
 use Prim.Native.Nat.{ℕ, zero, suc, _+_, _<_, _≤_}
 use mathlib.Core.Path.{_≡_, refl, sym, _∙_, ap, subst}
+use mathlib.Core.Bool.{Bool, true, false}
 use mathlib.Core.List.{List, [], _∷_}
 use native.Mathlib.Omega.{arith}
-use lib.ListN.{length, drop}
+use lib.ListN.{length, take, drop}
+use Rattle.laws.specs.Lists.{some}
 use Rattle.laws.proofs.Lists.{rest}
 use Rattle.laws.proofs.Parts.{lent, known}
 use Rattle.rule_text.specs.Forms.{inside, entry}
@@ -15,18 +17,19 @@ use Rattle.rule_text.specs.declared.Four.{Four}
 use Rattle.rule_text.specs.declared.Entry.{Entry}
 use Rattle.rule_text.specs.declared.Entry.the-variants as E
 use Rattle.rule_text.proofs.Walk as Walk
-use Rattle.plate.specs.Plate.{Rule, mostFoldings}
+use Rattle.plate.specs.Plate.{Rule, mostFoldings, ofPattern}
 use Rattle.plate.specs.Most.{mostRules}
-use Rattle.book.specs.Book.{Book, foldingOf, ruleFault}
-use Rattle.book.specs.Note.{bookOf, Kept, noneNoted, RuleNoted, FoldingNoted}
+use Rattle.book.specs.Book.{Book, foldingOf}
+use Rattle.book.specs.Seen.{slots}
+use Rattle.book.specs.Note.{places, bookOf, Kept, noneNoted, FoldingNoted}
 use Rattle.book.specs.declared.Tally.{Tally}
 use Rattle.book.specs.declared.Noted.{Noted}
 use Rattle.book.specs.declared.Noted.the-variants as Noted
 use Rattle.book.proofs.Ways as Ways
-use Rattle.book.proofs.Noting.{none-kept, rules-counted, kept-later, rule-kept, rule-noted, folding-fault, folding-fine, folding-kept, folding-noted}
-use Rattle.builder.specs.Build.{fault, enter, Verdict, unless, verdict}
+use Rattle.book.proofs.Noting.{none-kept, kept-later, double-kept, double-noted, rule-kept, rule-noted, rule-met, folding-fault, folding-fine, folding-kept, folding-noted}
+use Rattle.builder.specs.Build.{longestText, fault, enter, Verdict, unless, verdict}
 use Rattle.builder.specs.Build.Verdict.{Faulty, Fine}
-use Rattle.builder.specs.Survey.{faultNumber, ruleIn, ruleSaid, view, SoFar, onward, turnOf, TurnIs}
+use Rattle.builder.specs.Survey.{faultNumber, ruleIn, ruleSaid, view, Met, SoFar, Held, onward, turnOf, NotedAs, FourNoted, TurnIs}
 use Rattle.builder.specs.declared.Fault.{Fault}
 use Rattle.builder.specs.declared.Fault.the-variants.{NotRecognised, Flawed}
 use Rattle.builder.specs.declared.survey.Turn.{Turn}
@@ -58,10 +61,14 @@ module _ (b : Book) (i : Item) (more is : List Item) (e : is ≡ i ∷ more) whe
 
 -- ---- the start and the end
 
-pub survey-start : (text keys foldings : List ℕ) → length text ≤ 65536 → length keys ≡ mostRules → length foldings ≡ mostFoldings → SoFar text 0 noneNoted keys foldings
-survey-start text keys foldings h k f = record { short = h; within = omega arith; noted = none-kept (view text) 0 keys foldings k f }
+pub survey-start : (text keys seen foldings : List ℕ) → length text ≤ longestText → length keys ≡ mostRules → length seen ≡ slots → length foldings ≡ mostFoldings
+    → SoFar text 0 noneNoted keys seen foldings
+survey-start text keys seen foldings h k s f = record { short = h; within = omega arith; noted = none-kept (view text) 0 keys foldings k f; met = (s, tt) }
 
-module _ (text : List ℕ) (at : ℕ) (tally : Tally) (keys foldings : List ℕ) (k : SoFar text at tally keys foldings) where
+module _ (text : List ℕ) (at : ℕ) (tally : Tally) (keys seen foldings : List ℕ) (k : SoFar text at tally keys seen foldings) where
+  pub held : Held text at tally keys seen
+  held = record { within = k .within; rules = k .noted .rules; sure = k .noted .sure; met = k .met }
+
   pub survey-end : length text ≤ at → Kept (view text) (length text) tally keys foldings × (onward text at tally keys foldings ≡ Fine (bookOf (view text) tally keys foldings))
   unfolding verdict
   survey-end h = (kept-later (view text) at tally keys foldings (k .noted) (length text) (k .within), ap (verdict (bookOf (view text) tally keys foldings)) (Walk.done text at h))
@@ -75,7 +82,7 @@ module _ (text : List ℕ) (at : ℕ) (tally : Tally) (keys foldings : List ℕ)
     abbrev left : List ℕ
     left = drop at text
 
-    pub low : at < 65536
+    pub low : at < places
     low = let a = k .short in omega arith
 
     -- As `item` answers it on what is left.
@@ -90,13 +97,13 @@ module _ (text : List ℕ) (at : ℕ) (tally : Tally) (keys foldings : List ℕ)
       near = Walk.within text at e there h
 
       -- A recognised item that has no fault: what is noted with it goes on.
-      on : Walk.Recognised e → (t : Tally) (keys′ foldings′ : List ℕ) → Kept (view text) (at + 1) t keys′ foldings′
+      on : Walk.Recognised e → (t : Tally) (keys′ seen′ foldings′ : List ℕ) → Kept (view text) (at + 1) t keys′ foldings′ → Met t keys′ seen′
           → bookOf (view text) t keys′ foldings′ ≡ enter (said left e) book → fault (said left e) book ≡ 0
-          → TurnIs text at tally keys foldings keys′ foldings′ (On (at + taken left e) t)
-      on known t keys′ foldings′ kept b f =
+          → TurnIs text at tally keys foldings keys′ seen′ foldings′ (On (at + taken left e) t)
+      on known t keys′ seen′ foldings′ kept met b f =
           let w = near .0 in
           let next = at + taken left e in (
-            record { short = k .short; within = near .1; noted = kept-later (view text) (at + 1) t keys′ foldings′ kept next (omega arith) },
+            record { short = k .short; within = near .1; noted = kept-later (view text) (at + 1) t keys′ foldings′ kept next (omega arith); met = met },
             w,
             ap (λ (c : Book). verdict c (itemsAt text next)) b
                 ∙ verdict-on book (itemOf at left e) (itemsAt text next) (itemsAt text at) (Walk.turn text at e there h known) f,
@@ -113,15 +120,15 @@ module _ (text : List ℕ) (at : ℕ) (tally : Tally) (keys foldings : List ℕ)
       behind-low = let a = k .short in let w = near .1 in omega arith
 
     pub line-end-turn : (next : ℕ) {r : Entry} → (r ≡ entry (lent at text)) × Lies (length (lent at text)) r → r ≡ E.LineEnd next
-        → TurnIs text at tally keys foldings keys foldings (On (at + next) tally)
-    line-end-turn next says is = on (E.LineEnd next) says is tt tally keys foldings (later (E.LineEnd next) says is) refl refl
+        → TurnIs text at tally keys foldings keys seen foldings (On (at + next) tally)
+    line-end-turn next says is = on (E.LineEnd next) says is tt tally keys seen foldings (later (E.LineEnd next) says is) (k .met) refl refl
 
     pub comment-turn : (next : ℕ) {r : Entry} → (r ≡ entry (lent at text)) × Lies (length (lent at text)) r → r ≡ E.Comment next
-        → TurnIs text at tally keys foldings keys foldings (On (at + next) tally)
-    comment-turn next says is = on (E.Comment next) says is tt tally keys foldings (later (E.Comment next) says is) refl refl
+        → TurnIs text at tally keys foldings keys seen foldings (On (at + next) tally)
+    comment-turn next says is = on (E.Comment next) says is tt tally keys seen foldings (later (E.Comment next) says is) (k .met) refl refl
 
     pub unknown-turn : {r : Entry} → (r ≡ entry (lent at text)) × Lies (length (lent at text)) r → r ≡ E.Unknown
-        → TurnIs text at tally keys foldings keys foldings (Stop NotRecognised)
+        → TurnIs text at tally keys foldings keys seen foldings (Stop NotRecognised)
     unknown-turn says is =
         verdict-stop book (itemOf at left E.Unknown) [] (itemsAt text at) (Walk.stop text at (there E.Unknown says is) h) NotRecognised refl
 
@@ -134,15 +141,16 @@ module _ (text : List ℕ) (at : ℕ) (tally : Tally) (keys foldings : List ℕ)
           let y = b .targetSmall in (omega arith, omega arith)
 
       pub folding-turn : (foldings′ : List ℕ) (n : Noted) → FoldingNoted c target tally foldings foldings′ n
-          → TurnIs text at tally keys foldings keys foldings′ (turnOf n (at + next))
+          → TurnIs text at tally keys foldings keys seen foldings′ (turnOf n (at + next))
       folding-turn foldings′ (Noted.Refused w) p =
           stop (E.Folding c target next) says is tt (Flawed w)
           (folding-fault (view text) at tally keys foldings (k .noted) c target (small .0) (small .1) w foldings′ p)
       folding-turn foldings′ (Noted.Fine t) p =
           let i = small .0 in
           let j = small .1 in
-          on (E.Folding c target next) says is tt t keys foldings′
+          on (E.Folding c target next) says is tt t keys seen foldings′
           (kept-later (view text) at t keys foldings′ (folding-kept (view text) at tally keys foldings (k .noted) c target i j foldings′ t p) (at + 1) (omega arith))
+          (subst (λ (t : Tally). Met t keys seen) (sym (p .2)) (k .met))
           (folding-noted (view text) at tally keys foldings (k .noted) c target i j foldings′ t p)
           (folding-fine (view text) at tally keys foldings (k .noted) c target i j foldings′ t p)
 
@@ -151,22 +159,34 @@ module _ (text : List ℕ) (at : ℕ) (tally : Tally) (keys foldings : List ℕ)
       abbrev R : Rule
       R = ruleIn left four
 
-      fault-is : fault (said left (E.Rule four)) book ≡ ruleFault R (tally .rules)
-      fault-is = ap (ruleFault R) (rules-counted (view text) at tally keys foldings (k .noted))
-
       viewed : view text at ≡ R
       unfolding view
       viewed = ap (λ (e : Entry). ruleSaid (said left e)) (there (E.Rule four) says is)
 
-      entered : (keys′ : List ℕ) (n : Noted) → RuleNoted R at tally keys keys′ n → TurnIs text at tally keys foldings keys′ foldings (turnOf n (at + four .next))
-      entered keys′ (Noted.Refused w) p = stop (E.Rule four) says is tt (Flawed w) (fault-is ∙ p .0)
-      entered keys′ (Noted.Fine t) p =
-          on (E.Rule four) says is tt t keys′ foldings
-          (rule-kept (view text) at tally keys foldings (k .noted) R viewed low keys′ t p)
-          (rule-noted (view text) at tally keys foldings (k .noted) R viewed low keys′ t p)
-          (fault-is ∙ p .fine)
+      -- one of those noted has its pattern
+      abbrev double : Bool
+      double = some (ofPattern (R .pattern)) (book .rules)
+
+      entered : (b : Bool) → double ≡ b → (keys′ seen′ : List ℕ) (n : Noted) → NotedAs b R at tally keys seen keys′ seen′ n
+          → TurnIs text at tally keys foldings keys′ seen′ foldings (turnOf n (at + four .next))
+      entered true e keys′ seen′ (Noted.Refused w) p = stop (E.Rule four) says is tt (Flawed w) (p .0)
+      entered false e keys′ seen′ (Noted.Refused w) p = stop (E.Rule four) says is tt (Flawed w) (p .0)
+      entered true e keys′ seen′ (Noted.Fine t) p =
+          subst (λ (s : List ℕ). TurnIs text at tally keys foldings keys′ s foldings (On (at + four .next) t)) (sym (p .2))
+          (subst (λ (ks : List ℕ). TurnIs text at tally keys foldings ks seen foldings (On (at + four .next) t)) (sym (p .1))
+          (on (E.Rule four) says is tt t keys seen foldings
+          (kept-later (view text) at t keys foldings (double-kept (view text) at tally keys foldings (k .noted) R t (p .0)) (at + 1) (omega arith))
+          (subst (λ (t : Tally). Met t keys seen) (sym (p .0 .1)) (k .met))
+          (double-noted (view text) at tally keys foldings (k .noted) R t (p .0) e)
+          (p .0 .0)))
+      entered false e keys′ seen′ (Noted.Fine t) p =
+          on (E.Rule four) says is tt t keys′ seen′ foldings
+          (rule-kept (view text) at tally keys foldings (k .noted) R viewed low seen keys′ seen′ t p)
+          (rule-met (view text) at tally keys foldings (k .noted) R viewed low seen keys′ seen′ t p (k .met .0) (k .met .1))
+          (rule-noted (view text) at tally keys foldings (k .noted) R viewed low seen keys′ seen′ t p e)
+          (p .fine)
 
       -- As the rest is lent.
-      pub rule-turn : (keys′ : List ℕ) (n : Noted) → RuleNoted (ruleIn (lent at text) four) at tally keys keys′ n
-          → TurnIs text at tally keys foldings keys′ foldings (turnOf n (at + four .next))
-      rule-turn keys′ n p = entered keys′ n (subst (λ (l : List ℕ). RuleNoted (ruleIn l four) at tally keys keys′ n) (rest at text) p)
+      pub rule-turn : (keys′ seen′ : List ℕ) (n : Noted) → FourNoted text (ruleIn (lent at text) four) at tally keys seen keys′ seen′ n
+          → TurnIs text at tally keys foldings keys′ seen′ foldings (turnOf n (at + four .next))
+      rule-turn keys′ seen′ n p = entered double refl keys′ seen′ n (subst (λ (l : List ℕ). FourNoted text (ruleIn l four) at tally keys seen keys′ seen′ n) (rest at text) p)

@@ -22,9 +22,10 @@ enter LineEndItem b = b
 enter CommentItem b = b
 enter UnknownItem b = b
 
--- the fault of an item behind those in the book, 0 for none; 3: "an item of rule text is not recognised"; 8: "rule 1,501 or, as before, the 129th key"
+-- the fault of an item behind those in the book, 0 for none; 3: "an item of rule text is not recognised"; 8: "rule 1,501 or, as before, the 129th key";
+-- 02, M-107: "The limit of refusal 8 still counts" a rule that is left out
 abbrev pub fault : Saying → Book → ℕ
-fault (RuleItem p s v o) b = ruleFault (ruleOf bar p s v o) (length (b .rules))
+fault (RuleItem p s v o) b = ruleFault (ruleOf bar p s v o) (b .read)
 fault (FoldingItem key target) b = foldingFault (foldingOf key target) (b .foldings)
 fault LineEndItem b = 0
 fault CommentItem b = 0

@@ -1,16 +1,19 @@
 -- What the first pass reads and answers: a rule at a place of the text, what is noted up to a place, and the verdict from there on. Assumes nothing.
 use Prim.Native.Nat.{ℕ, _<_, _≤_}
 use mathlib.Core.Path.{_≡_}
+use mathlib.Core.Bool.{Bool, true, false}
 use mathlib.Core.List.{List, []}
-use lib.ListN.{length, drop}
+use lib.ListN.{length, take, drop}
+use Rattle.laws.specs.Lists.{some}
 use Rattle.rule_text.specs.Forms.{inside, entry}
 use Rattle.rule_text.specs.Items.{Saying, said, itemsAt}
 use Rattle.rule_text.specs.Items.Saying.{RuleItem, FoldingItem, LineEndItem, CommentItem, UnknownItem}
 use Rattle.rule_text.specs.Fields.{bar}
 use Rattle.rule_text.specs.declared.Four.{Four}
-use Rattle.plate.specs.Plate.{Rule}
+use Rattle.plate.specs.Plate.{Rule, ofPattern}
 use Rattle.book.specs.Book.{ruleOf}
-use Rattle.book.specs.Note.{bookOf, Kept, flawNumber}
+use Rattle.book.specs.Seen.{slots}
+use Rattle.book.specs.Note.{rulesIn, AllSure, AllMarked, bookOf, KeysHeld, Kept, flawNumber, RuleNoted, DoubleNoted}
 use Rattle.book.specs.declared.Tally.{Tally}
 use Rattle.book.specs.declared.Noted.{Noted}
 use Rattle.book.specs.declared.Noted.the-variants as Noted
@@ -48,10 +51,22 @@ view text at = ruleSaid (said (drop at text) (entry (drop at text)))
 
 -- ---- the items before a place are noted
 
-pub record SoFar (text : List ℕ) (at : ℕ) (tally : Tally) (keys foldings : List ℕ) : Type 0 where
+-- the hashes of the rules noted are met
+abbrev pub Met : Tally → List ℕ → List ℕ → Type 0
+Met tally keys seen = (length seen ≡ slots) × AllMarked seen (take (tally .rules) keys)
+
+pub record SoFar (text : List ℕ) (at : ℕ) (tally : Tally) (keys seen foldings : List ℕ) : Type 0 where
   pub short : length text ≤ longestText
   pub within : at ≤ length text
   pub noted : Kept (view text) at tally keys foldings
+  pub met : Met tally keys seen
+
+-- of that, what is noted of rules
+pub record Held (text : List ℕ) (at : ℕ) (tally : Tally) (keys seen : List ℕ) : Type 0 where
+  pub within : at ≤ length text
+  pub rules : KeysHeld tally keys
+  pub sure : AllSure (view text) at (take (tally .rules) keys)
+  pub met : Met tally keys seen
 
 -- The verdict on the items from a place on, behind what is noted.
 abbrev pub onward : List ℕ → ℕ → Tally → List ℕ → List ℕ → Verdict
@@ -63,10 +78,20 @@ abbrev pub turnOf : Noted → ℕ → Turn
 turnOf (Noted.Fine tally) next = On next tally
 turnOf (Noted.Refused flaw) next = Stop (Flawed flaw)
 
-abbrev pub TurnIs : List ℕ → ℕ → Tally → List ℕ → List ℕ → List ℕ → List ℕ → Turn → Type 0
-TurnIs text at tally keys foldings keys′ foldings′ (On next t) =
-    SoFar text next t keys′ foldings′ × (at < next) × (onward text next t keys′ foldings′ ≡ onward text at tally keys foldings)
-TurnIs text at tally keys foldings keys′ foldings′ (Stop fault) = onward text at tally keys foldings ≡ Faulty (faultNumber fault) at
+-- a rule, where its pattern is known and where it is new
+abbrev pub NotedAs : Bool → Rule → ℕ → Tally → List ℕ → List ℕ → List ℕ → List ℕ → Noted → Type 0
+NotedAs true r at tally keys seen keys′ seen′ n = DoubleNoted r tally n × (keys′ ≡ keys) × (seen′ ≡ seen)
+NotedAs false r at tally keys seen keys′ seen′ n = RuleNoted r at tally keys seen keys′ seen′ n
+
+-- a rule behind those noted
+abbrev pub FourNoted : List ℕ → Rule → ℕ → Tally → List ℕ → List ℕ → List ℕ → List ℕ → Noted → Type 0
+FourNoted text r at tally keys seen keys′ seen′ n =
+    NotedAs (some (ofPattern (r .pattern)) (rulesIn (view text) (take (tally .rules) keys))) r at tally keys seen keys′ seen′ n
+
+abbrev pub TurnIs : List ℕ → ℕ → Tally → List ℕ → List ℕ → List ℕ → List ℕ → List ℕ → Turn → Type 0
+TurnIs text at tally keys foldings keys′ seen′ foldings′ (On next t) =
+    SoFar text next t keys′ seen′ foldings′ × (at < next) × (onward text next t keys′ foldings′ ≡ onward text at tally keys foldings)
+TurnIs text at tally keys foldings keys′ seen′ foldings′ (Stop fault) = onward text at tally keys foldings ≡ Faulty (faultNumber fault) at
 
 abbrev pub SurveyIs : List ℕ → List ℕ → List ℕ → Verdict → Surveyed → Type 0
 SurveyIs text keys foldings v (Surveyed.Fine t) = Kept (view text) (length text) t keys foldings × (v ≡ Fine (bookOf (view text) t keys foldings))

@@ -17,11 +17,12 @@ use Rattle.plate.specs.Worked.{whole}
 abbrev empty : List ℕ
 empty = 0x01 ∷ 0x00 ∷ 0x00 ∷ 0x20 ∷ []
 
--- Four rules and two foldings, flag off: first code point rising, byte length falling (aé has three), text order; a later folding replaces the earlier.
+-- Four rules and two foldings, flag off: first code point rising, byte length falling (aé has three), text order; a later folding replaces the earlier,
+-- a later rule of a pattern is left out.
 abbrev ordering : List ℕ
 ordering =
     0x01 ∷ 0x01 ∷ 0x00 ∷ 0x80 ∷ 0x00 ∷ 0x07 ∷ 0x00 ∷ 0x00 ∷ 0x18 ∷ 0x80 ∷ 0x01 ∷ 0xD2 ∷ 0x00 ∷ 0x06 ∷ 0x51 ∷ 0xB0 ∷ 0xE1 ∷ 0xD4 ∷ 0x89 ∷ 0x31 ∷ 0x02 ∷ 0x04
-    ∷ 0xC2 ∷ 0xC2 ∷ 0x24 ∷ 0x84 ∷ 0x08 ∷ 0x13 ∷ 0x0B ∷ 0x09 ∷ 0x14 ∷ 0x4A ∷ 0xC2 ∷ 0x04 ∷ 0x05 ∷ 0x88 ∷ 0x48 ∷ 0x88 ∷ 0x10 ∷ []
+    ∷ 0xC2 ∷ 0xC4 ∷ 0x24 ∷ 0x84 ∷ 0x08 ∷ 0x13 ∷ 0x0B ∷ 0x09 ∷ 0x14 ∷ 0x4A ∷ 0xC2 ∷ 0x04 ∷ 0x05 ∷ 0x88 ∷ 0x48 ∷ 0x88 ∷ 0x10 ∷ []
 
 abbrev built : Built → ℕ → ℕ → List ℕ → Bool
 built b number n buffer = eqb (b .number) number && (eqb (b .line) 0 && (eqb (b .length) n && same (b .buffer) buffer))
@@ -38,14 +39,21 @@ builds text flag plate =
 abbrev one : List ℕ
 one = bytes "\"a\" \"0\" \"\" \"\"\n"
 
+-- 02, M-107: the first of two equal patterns stays
+abbrev double : List ℕ
+double = lines ("\"a\" \"0\" \"\" \"\"" ∷ "\"a\" \"1\" \"2\" \"3\"" ∷ [])
+
+abbrev doubleBack : List ℕ
+doubleBack = lines ("\"a\" \"1\" \"2\" \"3\"" ∷ "\"a\" \"0\" \"\" \"\"" ∷ [])
+
 abbrev mixed : List ℕ
-mixed = lines ("é=e" ∷ "à=a" ∷ "\"b\" \"1\" \"\" \"\"" ∷ "\"aa\" \"2\" \"\" \"\"" ∷ "\"aé\" \"3\" \"\" \"\"" ∷ "à=b" ∷ "\"aa\" \"4|56\" \"\" \"\"" ∷ [])
+mixed = lines ("é=e" ∷ "à=a" ∷ "\"b\" \"1\" \"\" \"\"" ∷ "\"ab\" \"2\" \"\" \"\"" ∷ "\"aé\" \"3\" \"\" \"\"" ∷ "à=b" ∷ "\"aa\" \"4|56\" \"\" \"\"" ∷ "\"ab\" \"7\" \"\" \"\"" ∷ [])
 
 -- Each text builds its plate; none builds it with the other flag, or another's, and what is refused builds nothing.
 pub worked : T (
     builds one true whole
-    && (builds [] true empty && builds mixed false ordering)
-    && not (builds one false whole || builds [] true whole || builds mixed true ordering || builds (bytes "?") true [])
+    && (builds [] true empty && builds mixed false ordering && builds double true whole)
+    && not (builds doubleBack true whole || builds one false whole || builds [] true whole || builds mixed true ordering || builds (bytes "?") true [])
     )
 unfolding buildAnswer verdict textFrom splitAt entry quadruplet folding multilineComment endOfLine ending comment blanks until countOf later pairAt lineAt part
     plain escaped partAt letterAt closing itemsFrom
@@ -59,6 +67,8 @@ refused text number line = let b = buildAnswer text true [] in eqb (b .number) n
 pub lines-worked : T (
     refused (bytes "/*\n*/\r\n\n?\n") 3 4
     && (refused (bytes "\"a\nb\" \"\" \"\" \"\"\n?") 3 3 && (refused (bytes "\n=\n\n?") 3 4 && refused (bytes "\"a\" \"1\n\" \"\" \"\"\n") 7 1))
+    -- the fields of a double are checked
+    && refused (bytes "\"a\" \"1\" \"\" \"\"\n\"a\" \"x\" \"\" \"\"\n") 7 2
     && not (refused (bytes "/*\n*/\r\n\n?\n") 3 5 || refused (bytes "\"a\" \"1\n\" \"\" \"\"\n") 7 2)
     )
 unfolding buildAnswer verdict textFrom splitAt entry quadruplet folding multilineComment endOfLine ending comment blanks until countOf later pairAt lineAt part

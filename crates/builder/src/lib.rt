@@ -1,4 +1,5 @@
 // From rule text to a plate. 01: "Build checks 1, then 2 (whole text), then items front to back, the first fault in the text deciding. [..] Last 9."
+mod known; // known.rt: whether a pattern is one of those noted
 mod survey; // survey.rt: the items front to back, noted in the book, the first fault deciding
 mod write; // write.rt: what is noted, written as a plate
 
@@ -6,6 +7,7 @@ ghost use mathlib.Core.Path.{_≡_};
 ghost use Rattle.builder.specs.Build.{buildAnswer};
 ghost use Rattle.builder.specs.Outcome.{told};
 use book::Flaw;
+use book::SLOTS;
 use chars::Checked;
 use chars::utf8::check_text;
 use plate::MOST_FOLDINGS;
@@ -49,7 +51,8 @@ pub fn build(text: &[u8], flag: bool, out: &mut [u8]) -> Built
     }
     let mut keys = [0u64; MOST_RULES];
     let mut foldings = [0u64; MOST_FOLDINGS];
-    match survey::survey(text, &mut keys, &mut foldings) {
+    let mut seen = [0u8; SLOTS];
+    match survey::survey(text, &mut keys, &mut seen, &mut foldings) {
         Surveyed::Faulty(fault, at) => Built::Faulty(fault, line_of(text, at)),
         Surveyed::Fine(tally) => {
             if out.len() < (32 + 42 * tally.foldings + tally.bits + 7) / 8 {

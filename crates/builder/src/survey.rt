@@ -7,15 +7,19 @@ ghost use Rattle.rule_text.specs.Answers.{FourIn};
 ghost use Rattle.plate.specs.Plate.{mostFoldings};
 ghost use Rattle.plate.specs.Most.{mostRules};
 ghost use Rattle.book.specs.Book.{blank};
-ghost use Rattle.book.specs.Note.{places, KeysHeld, RuleNoted};
+ghost use Rattle.book.specs.Seen.{slots};
+ghost use Rattle.book.specs.Note.{places};
 ghost use Rattle.builder.specs.Build.{longestText, verdict};
-ghost use Rattle.builder.specs.Survey.{ruleIn, turnOf, SoFar, TurnIs, SurveyIs};
+ghost use Rattle.builder.specs.Survey.{ruleIn, turnOf, Held, SoFar, FourNoted, TurnIs, SurveyIs};
 use super::BAR;
 use super::Fault;
+use super::known::is_known;
 use book::Noted;
 use book::Tally;
+use book::note::note_double;
 use book::note::note_folding;
 use book::note::note_rule;
+use book::seen::hash_of;
 use rule_text::Entry;
 use rule_text::Four;
 use rule_text::item::item;
@@ -34,15 +38,38 @@ pub enum Surveyed {
 }
 
 // The rule in front of the rest, which begins at a place.
-fn note_four(keys: &mut [u64], tally: Tally, at: usize, rest: &[u8], four: Four) -> Noted
-    requires { ⌜ KeysHeld tally (now keys) × (at < places) × FourIn (length (now rest)) four ⌝ }
-    ensures { λ r. ⌜ RuleNoted (ruleIn (now (rest .entry)) four) at tally (now (keys .entry)) (now (keys .exit)) r ⌝ }
+fn note_four(
+    text: &[u8],
+    keys: &mut [u64],
+    seen: &mut [u8],
+    tally: Tally,
+    at: usize,
+    rest: &[u8],
+    four: Four,
+) -> Noted
+    requires { ⌜ Held (now text) at tally (now keys) (now seen) × (at < places) × FourIn (length (now rest)) four ⌝ }
+    ensures { λ r. ⌜ FourNoted (now (text .entry)) (ruleIn (now (rest .entry)) four) at tally (now (keys .entry)) (now (seen .entry)) (now (keys .exit)) (now (seen .exit)) r ⌝ }
 {
     let pattern = bytes_in(rest, four.pattern);
     let start = bytes_in(rest, four.start);
     let vowel = bytes_in(rest, four.vowel);
     let other = bytes_in(rest, four.other);
-    note_rule(keys, tally, at, pattern, start, vowel, other, BAR)
+    let hash = hash_of(pattern);
+    if is_known(text, keys, tally.rules, seen, pattern, hash) {
+        return note_double(tally, pattern, start, vowel, other, BAR);
+    }
+    note_rule(
+        keys,
+        seen,
+        tally,
+        at,
+        pattern,
+        start,
+        vowel,
+        other,
+        BAR,
+        hash,
+    )
 }
 
 fn behind(noted: Noted, next: usize) -> Turn
@@ -55,13 +82,23 @@ fn behind(noted: Noted, next: usize) -> Turn
 }
 
 // The item at a place.
-fn enter(text: &[u8], keys: &mut [u64], foldings: &mut [u64], at: usize, tally: Tally) -> Turn
-    requires { ⌜ SoFar (now text) at tally (now keys) (now foldings) × (at < length (now text)) ⌝ }
-    ensures { λ r. ⌜ TurnIs (now (text .entry)) at tally (now (keys .entry)) (now (foldings .entry)) (now (keys .exit)) (now (foldings .exit)) r ⌝ }
+fn enter(
+    text: &[u8],
+    keys: &mut [u64],
+    seen: &mut [u8],
+    foldings: &mut [u64],
+    at: usize,
+    tally: Tally,
+) -> Turn
+    requires { ⌜ SoFar (now text) at tally (now keys) (now seen) (now foldings) × (at < length (now text)) ⌝ }
+    ensures { λ r. ⌜ TurnIs (now (text .entry)) at tally (now (keys .entry)) (now (foldings .entry)) (now (keys .exit)) (now (seen .exit)) (now (foldings .exit)) r ⌝ }
 {
     let rest = &text[at..];
     match item(rest) {
-        Entry::Rule(four) => behind(note_four(keys, tally, at, rest, four), at + four.next),
+        Entry::Rule(four) => behind(
+            note_four(text, keys, seen, tally, at, rest, four),
+            at + four.next,
+        ),
         Entry::Folding { key, target, next } => {
             behind(note_folding(foldings, tally, key, target), at + next)
         }
@@ -72,18 +109,24 @@ fn enter(text: &[u8], keys: &mut [u64], foldings: &mut [u64], at: usize, tally: 
 }
 
 // All items of a text.
-pub(crate) fn survey(text: &[u8], keys: &mut [u64], foldings: &mut [u64]) -> Surveyed
-    requires { ⌜ (length (now text) ≤ longestText) × (length (now keys) ≡ mostRules) × (length (now foldings) ≡ mostFoldings) ⌝ }
+pub(crate) fn survey(
+    text: &[u8],
+    keys: &mut [u64],
+    seen: &mut [u8],
+    foldings: &mut [u64],
+) -> Surveyed
+    requires { ⌜ (length (now text) ≤ longestText) × (length (now keys) ≡ mostRules) × (length (now seen) ≡ slots) × (length (now foldings) ≡ mostFoldings) ⌝ }
     ensures { λ r. ⌜ SurveyIs (now (text .entry)) (now (keys .exit)) (now (foldings .exit)) (verdict blank (items (now (text .entry)))) r ⌝ }
 {
     let mut at: usize = 0;
     let mut tally = Tally {
+        read: 0,
         rules: 0,
         foldings: 0,
         bits: 0,
     };
     while at < text.len() {
-        match enter(text, keys, foldings, at, tally) {
+        match enter(text, keys, seen, foldings, at, tally) {
             Turn::On(next, more) => {
                 at = next;
                 tally = more;

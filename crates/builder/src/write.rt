@@ -11,6 +11,7 @@ ghost use Rattle.book.specs.Note.{placeIn, rulesIn, Sure, AllSure, Kept, bookOf
 ghost use Rattle.book.specs.Writing.{bytesOf};
 ghost use Rattle.builder.specs.Survey.{ruleIn, view};
 use super::BAR;
+use book::HASHES;
 use book::PLACES;
 use book::Tally;
 use book::pen::Pen;
@@ -41,7 +42,7 @@ fn put_rule(out: &mut [u8], pen: Pen, text: &[u8], key: u64) -> Pen
     requires { ⌜ Sure (view (now text)) (length (now text)) key × Ready (now out) pen (ruleBits (view (now text) (placeIn key))) ⌝ }
     ensures { λ r. ⌜ Wrote (now (out .entry)) pen (ruleBits (view (now (text .entry)) (placeIn key))) (now (out .exit)) r ⌝ }
 {
-    let at = (key % PLACES) as usize;
+    let at = (key / HASHES % PLACES) as usize;
     let rest = &text[at..];
     let Entry::Rule(four) = item(rest) else {
         return pen;

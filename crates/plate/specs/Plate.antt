@@ -4,7 +4,7 @@ use mathlib.Core.Bool.{Bool, true, cond, _&&_, _||_}
 use mathlib.Core.List.{List, [], _∷_}
 use lib.Dec.{ltb, leb, eqb}
 use lib.ListN.{length}
-use Rattle.laws.specs.Lists.{between, every}
+use Rattle.laws.specs.Lists.{between, every, same}
 use Rattle.chars.specs.Utf8.{charOf, codeOf, isText, scalar}
 use Rattle.chars.specs.Digits.{isAlternative}
 use Rattle.chars.specs.Digits as digits
@@ -19,6 +19,13 @@ pub record Rule : Type 0 where
   pub start : List (List ℕ)
   pub vowel : List (List ℕ)
   pub other : List (List ℕ)
+
+-- a rule of this pattern, and two rules of one; equal are patterns of equal bytes, whatever the fields
+abbrev pub ofPattern : List ℕ → Rule → Bool
+ofPattern p r = same (r .pattern) p
+
+abbrev pub samePattern : Rule → Rule → Bool
+samePattern r q = ofPattern (r .pattern) q
 
 pub record Plate : Type 0 where
   pub flag : Bool

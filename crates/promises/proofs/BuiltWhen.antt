@@ -18,11 +18,13 @@ use Rattle.rule_text.specs.Items.Saying.{RuleItem, FoldingItem, LineEndItem, Co
 use Rattle.rule_text.specs.Fields.{bar, alternatives}
 use Rattle.chars.specs.Digits.{isAlternative}
 use Rattle.plate.specs.Written.{plateBytes}
+use Rattle.plate.specs.Plate.{samePattern}
 use Rattle.book.specs.Book.{Book, blank, putFolding, foldingOf, when, firstFault, fieldFault}
 use Rattle.builder.specs.Build.{enter, fault, unless, verdict, Built, refusal, answered, delivered, nonzero, buildAnswer}
 use Rattle.promises.specs.Said.{sayings, saidBy, rulesOf, foldingsOf, putRules, putFoldings}
+use Rattle.laws.specs.Once.{once}
 use Rattle.promises.specs.When.{Check, NotClean, FieldNumber, keys, ItemNumber, ItemsNumber, BuildNumber}
-use Rattle.promises.proofs.Said.{Holds, enter-holds, as-many-rules, put-count, knows-keys, in-some, some-in}
+use Rattle.promises.proofs.Said.{Holds, enter-holds, put-count, knows-keys, in-some, some-in}
 use Rattle.promises.proofs.CodedWhen.{every-false}
 use Rattle.promises.proofs.OnlyWhen.{item-fault}
 
@@ -95,7 +97,7 @@ folding-number key target before b h few =
     go false false e a a′ put many = let m = a′ refl in inr ((λ w. let l = w .0 in omega arith), refl)
 
 item-number : (before : List Saying) (i : Saying) (b : Book) → Holds before b → length (b .foldings) ≤ 128 → ItemNumber before i (fault i b)
-item-number before (RuleItem p s v o) b h few = rule-number p s v o before (length (b .rules)) (as-many-rules before b h)
+item-number before (RuleItem p s v o) b h few = rule-number p s v o before (b .read) (h .read)
 item-number before (FoldingItem key target) b h few = folding-number key target before b h few
 item-number before LineEndItem b h few = refl
 item-number before CommentItem b h few = refl
@@ -117,7 +119,7 @@ still-few UnknownItem b e h = h
 
 -- The plate of what is said.
 abbrev bytesSaid : Bool → List Saying → List ℕ
-bytesSaid flag is = plateBytes (record { flag = flag; foldings = putFoldings [] (foldingsOf is); rules = putRules [] (rulesOf is) })
+bytesSaid flag is = plateBytes (record { flag = flag; foldings = putFoldings [] (foldingsOf is); rules = putRules [] (once samePattern (rulesOf is)) })
 
 -- what a number and a line meet behind the items
 abbrev Met : List ℕ → Bool → List ℕ → List Saying → List Saying → List Item → Built → Type 0
@@ -185,7 +187,7 @@ unfolding buildAnswer
 build-number text flag lent =
     go (ltb 65536 (length text)) (isText text && every nonzero text) (λ e. ltb-true 65536 (length text) e) (λ e h. let k = ltb-false 65536 (length text) e in omega arith)
     (λ e. clean text e) (λ e. not-clean text e)
-    (items-met text flag lent (saidBy text) [] blank (items text) refl (record { rules = refl; foldings = refl }) (omega arith))
+    (items-met text flag lent (saidBy text) [] blank (items text) refl (record { rules = refl; read = refl; foldings = refl }) (omega arith))
   where
     go : (long fine : Bool) {w₁ w₂ : Type 0} → (long ≡ true → w₁) → (long ≡ false → w₁ → ⊥) → (fine ≡ false → w₂) → (fine ≡ true → w₂ → ⊥)
         → Met text flag lent (saidBy text) [] (items text) (answered text flag lent (verdict blank (items text)))

@@ -88,7 +88,7 @@ build-gives text flag lent bytes n =
     let j = judged text flag lent n in
     let x = build-accepted text flag lent bytes n in
     let b = x .0 in
-    let h = fine-holds [] blank (items text) b (record { rules = refl; foldings = refl }) (x .1) in
+    let h = fine-holds [] blank (items text) b (record { rules = refl; read = refl; foldings = refl }) (x .1) in
     let said : plateOf flag b ≡ plateSaid flag text = λ i. record { flag = flag; foldings = h .foldings i; rules = h .rules i } in
     let made : a ≡ delivered (plateBytes (plateOf flag b)) lent = j .1 ∙ ap (answered text flag lent) (x .1) in
     let made′ : a ≡ delivered (plateBytes (plateSaid flag text)) lent = made ∙ ap (λ (p : Plate). delivered (plateBytes p) lent) said in

@@ -13,3 +13,4 @@ pub mod Calls
 pub mod Once
 pub mod Placed
 pub mod Before
+pub mod Unused

@@ -3,24 +3,77 @@ use Prim.Native.Nat.{ℕ, suc, _+_, _<_}
 use mathlib.Core.Path.{_≡_, refl, sym, ap, ap₂, subst, _∙_}
 use mathlib.Core.Logic.{_⊎_, inl, inr}
 use mathlib.Core.Bool.{Bool, true, false, cond, _||_, false≢true}
-use mathlib.Core.List.{List, [], _∷_, _++_}
-use native.Mathlib.Nat.{zero-add}
+use mathlib.Core.List.{List, [], _∷_, _++_, append-nil}
 use native.Mathlib.Omega.{arith}
 use borrow.Author.Tests.{eq-eqb, ne-eqb, eqb-true, eqb-false, ltb-true, ltb-false}
 use lib.Dec.{ltb, eqb}
 use lib.ListN.{length, length-append}
 use Rattle.laws.specs.Lists.{In, some}
+use Rattle.laws.specs.Once.{among, merge, once}
 use Rattle.laws.proofs.Tests.{and-true, or-true, or-left, or-right}
 use Rattle.laws.proofs.Lists.{some-append}
 use Rattle.rule_text.specs.Items.{Saying}
 use Rattle.rule_text.specs.Items.Saying.{RuleItem, FoldingItem, LineEndItem, CommentItem, UnknownItem}
-use Rattle.plate.specs.Plate.{Folding, Rule, rising}
+use Rattle.plate.specs.Plate.{Folding, Rule, mayPrecede, rising, ofPattern, samePattern}
 use Rattle.rule_text.specs.Fields.{bar}
-use Rattle.book.specs.Book.{Book, putRule, putFolding, ruleOf, foldingOf}
-use Rattle.book.proofs.Sorted.{put-length, put-rising}
+use Rattle.book.specs.Book.{Book, putRule, putFolding, keepRule, ruleOf, foldingOf}
+use Rattle.book.proofs.Sorted.{put-rising}
 use Rattle.builder.specs.Build.{enter}
 use Rattle.promises.specs.Said.{rulesOf, foldingsOf, putRules, putFoldings}
 use Rattle.promises.specs.When.{keys}
+
+-- ---- of each pattern the first
+
+-- One more behind those that were merged.
+merge-next : (kept l : List Rule) (r : Rule) → let m = merge samePattern kept l in merge samePattern kept (l ++ (r ∷ [])) ≡ cond (among samePattern r m) m (m ++ (r ∷ []))
+merge-next kept [] r = refl
+merge-next kept (x ∷ l) r = merge-next (cond (among samePattern x kept) kept (kept ++ (x ∷ []))) l r
+
+-- Which patterns are there does not rest on the order.
+put-some : (t : Rule → Bool) (r : Rule) (l : List Rule) → some t (putRule r l) ≡ t r || some t l
+put-some t r [] = refl
+put-some t r (q ∷ l) = go (mayPrecede q r) (put-some t r l)
+  where
+    swap : (x y z : Bool) → y || (x || z) ≡ x || (y || z)
+    swap true true z = refl
+    swap true false z = refl
+    swap false y z = refl
+
+    go : (c : Bool) → some t (putRule r l) ≡ t r || some t l → some t (cond c (q ∷ putRule r l) (r ∷ q ∷ l)) ≡ t r || (t q || some t l)
+    go true e = ap (λ (b : Bool). t q || b) e ∙ swap (t r) (t q) (some t l)
+    go false e = refl
+
+puts-some : (t : Rule → Bool) (held l : List Rule) → some t (putRules held l) ≡ some t held || some t l
+puts-some t held [] = end (some t held)
+  where
+    end : (x : Bool) → x ≡ x || false
+    end true = refl
+    end false = refl
+puts-some t held (r ∷ l) = puts-some t (putRule r held) l ∙ ap (λ (b : Bool). b || some t l) (put-some t r held) ∙ swap (t r) (some t held) (some t l)
+  where
+    swap : (x y z : Bool) → (x || y) || z ≡ y || (x || z)
+    swap true true z = refl
+    swap true false z = refl
+    swap false y z = refl
+
+among-some : (r : Rule) (l : List Rule) → among samePattern r l ≡ some (ofPattern (r .pattern)) l
+among-some r [] = refl
+among-some r (q ∷ l) = ap (λ (b : Bool). ofPattern (r .pattern) q || b) (among-some r l)
+
+put-rules-behind : (held l more : List Rule) → putRules held (l ++ more) ≡ putRules (putRules held l) more
+put-rules-behind held [] more = refl
+put-rules-behind held (r ∷ l) more = put-rules-behind (putRule r held) l more
+
+-- A rule that is left out where its pattern is known is one that is merged before all are put in.
+kept-once : (l : List Rule) (r : Rule) → keepRule r (putRules [] (once samePattern l)) ≡ putRules [] (once samePattern (l ++ (r ∷ [])))
+kept-once l r =
+    let m = once samePattern l in
+    ap (λ (b : Bool). cond b (putRules [] m) (putRule r (putRules [] m))) (puts-some (ofPattern (r .pattern)) [] m ∙ sym (among-some r m))
+    ∙ go m (among samePattern r m) ∙ ap (putRules []) (sym (merge-next [] l r))
+  where
+    go : (m : List Rule) (b : Bool) → cond b (putRules [] m) (putRule r (putRules [] m)) ≡ putRules [] (cond b m (m ++ (r ∷ [])))
+    go m true = refl
+    go m false = sym (put-rules-behind [] m (r ∷ []))
 
 -- ---- item by item
 
@@ -40,47 +93,46 @@ foldings-behind (LineEndItem ∷ is) more = foldings-behind is more
 foldings-behind (CommentItem ∷ is) more = foldings-behind is more
 foldings-behind (UnknownItem ∷ is) more = foldings-behind is more
 
-put-rules-behind : (held l more : List Rule) → putRules held (l ++ more) ≡ putRules (putRules held l) more
-put-rules-behind held [] more = refl
-put-rules-behind held (r ∷ l) more = put-rules-behind (putRule r held) l more
-
 put-foldings-behind : (held l more : List Folding) → putFoldings held (l ++ more) ≡ putFoldings (putFoldings held l) more
 put-foldings-behind held [] more = refl
 put-foldings-behind held (f ∷ l) more = put-foldings-behind (putFolding f held) l more
 
 -- The book holds what the items said.
 pub record Holds (before : List Saying) (b : Book) : Type 0 where
-  pub rules : b .rules ≡ putRules [] (rulesOf before)
+  pub rules : b .rules ≡ putRules [] (once samePattern (rulesOf before))
+  pub read : b .read ≡ length (rulesOf before)
   pub foldings : b .foldings ≡ putFoldings [] (foldingsOf before)
 
-rules-next : (before : List Saying) (i : Saying) → putRules [] (rulesOf (before ++ (i ∷ []))) ≡ putRules (putRules [] (rulesOf before)) (rulesOf (i ∷ []))
-rules-next before i = ap (putRules []) (rules-behind before (i ∷ [])) ∙ put-rules-behind [] (rulesOf before) (rulesOf (i ∷ []))
+-- An item that says no rule adds none.
+no-rules : (before : List Saying) (i : Saying) → rulesOf (i ∷ []) ≡ [] → rulesOf (before ++ (i ∷ [])) ≡ rulesOf before
+no-rules before i e = rules-behind before (i ∷ []) ∙ ap (λ (l : List Rule). rulesOf before ++ l) e ∙ append-nil (rulesOf before)
 
 foldings-next : (before : List Saying) (i : Saying) → putFoldings [] (foldingsOf (before ++ (i ∷ []))) ≡ putFoldings (putFoldings [] (foldingsOf before)) (foldingsOf (i ∷ []))
 foldings-next before i = ap (putFoldings []) (foldings-behind before (i ∷ [])) ∙ put-foldings-behind [] (foldingsOf before) (foldingsOf (i ∷ []))
 
+-- The book behind an item that says no rule.
+unruled : (before : List Saying) (i : Saying) (b d : Book) → rulesOf (i ∷ []) ≡ [] → Holds before b → d .rules ≡ b .rules → d .read ≡ b .read
+    → d .foldings ≡ putFoldings (putFoldings [] (foldingsOf before)) (foldingsOf (i ∷ [])) → Holds (before ++ (i ∷ [])) d
+unruled before i b d e h rules read f =
+    let same = sym (no-rules before i e) in record {
+      rules = rules ∙ h .rules ∙ ap (λ (l : List Rule). putRules [] (once samePattern l)) same;
+      read = read ∙ h .read ∙ ap length same;
+      foldings = f ∙ sym (foldings-next before i);
+    }
+
 pub enter-holds : (before : List Saying) (i : Saying) (b : Book) → Holds before b → Holds (before ++ (i ∷ [])) (enter i b)
-enter-holds before (RuleItem p s v o) b h = record {
-  rules = ap (putRule (ruleOf bar p s v o)) (h .rules) ∙ sym (rules-next before (RuleItem p s v o));
-  foldings = h .foldings ∙ sym (foldings-next before (RuleItem p s v o));
-}
-enter-holds before (FoldingItem k t) b h = record {
-  rules = h .rules ∙ sym (rules-next before (FoldingItem k t));
-  foldings = ap (putFolding (foldingOf k t)) (h .foldings) ∙ sym (foldings-next before (FoldingItem k t));
-}
-enter-holds before LineEndItem b h = record { rules = h .rules ∙ sym (rules-next before LineEndItem); foldings = h .foldings ∙ sym (foldings-next before LineEndItem) }
-enter-holds before CommentItem b h = record { rules = h .rules ∙ sym (rules-next before CommentItem); foldings = h .foldings ∙ sym (foldings-next before CommentItem) }
-enter-holds before UnknownItem b h = record { rules = h .rules ∙ sym (rules-next before UnknownItem); foldings = h .foldings ∙ sym (foldings-next before UnknownItem) }
-
--- ---- how many
-
-rules-count : (held l : List Rule) → length (putRules held l) ≡ length held + length l
-rules-count held [] = omega arith
-rules-count held (r ∷ l) = rules-count (putRule r held) l ∙ ap (λ (n : ℕ). n + length l) (put-length r held) ∙ omega arith
-
--- The book has as many rules as the items.
-pub as-many-rules : (before : List Saying) (b : Book) → Holds before b → length (b .rules) ≡ length (rulesOf before)
-as-many-rules before b h = ap length (h .rules) ∙ rules-count [] (rulesOf before) ∙ zero-add (length (rulesOf before))
+enter-holds before (RuleItem p s v o) b h =
+    let r = ruleOf bar p s v o in
+    let all = sym (rules-behind before (RuleItem p s v o ∷ [])) in record {
+      rules = ap (keepRule r) (h .rules) ∙ kept-once (rulesOf before) r ∙ ap (λ (l : List Rule). putRules [] (once samePattern l)) all;
+      read = ap (λ (n : ℕ). n + 1) (h .read) ∙ sym (length-append (rulesOf before) (r ∷ [])) ∙ ap length all;
+      foldings = h .foldings ∙ sym (foldings-next before (RuleItem p s v o));
+    }
+enter-holds before (FoldingItem k t) b h =
+    unruled before (FoldingItem k t) b (enter (FoldingItem k t) b) refl h refl refl (ap (putFolding (foldingOf k t)) (h .foldings))
+enter-holds before LineEndItem b h = unruled before LineEndItem b b refl h refl refl (h .foldings)
+enter-holds before CommentItem b h = unruled before CommentItem b b refl h refl refl (h .foldings)
+enter-holds before UnknownItem b h = unruled before UnknownItem b b refl h refl refl (h .foldings)
 
 -- ---- the distinct keys
 

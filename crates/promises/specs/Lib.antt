@@ -9,3 +9,4 @@ pub mod Pair
 pub mod Once
 pub mod Place
 pub mod Before
+pub mod Unused

@@ -5,9 +5,10 @@ use mathlib.Core.Bool.{Bool, true}
 use mathlib.Core.List.{List, [], _∷_}
 use Rattle.rule_text.specs.Items.{Saying, Item, items}
 use Rattle.rule_text.specs.Items.Saying.{RuleItem, FoldingItem, LineEndItem, CommentItem, UnknownItem}
-use Rattle.plate.specs.Plate.{Folding, Rule, Plate, goodPlate}
+use Rattle.plate.specs.Plate.{Folding, Rule, Plate, samePattern, goodPlate}
 use Rattle.plate.specs.Written.{plateBytes}
 use Rattle.rule_text.specs.Fields.{bar}
+use Rattle.laws.specs.Once.{once}
 use Rattle.book.specs.Book.{putRule, putFolding, ruleOf, foldingOf}
 
 -- what items say, one by one
@@ -46,9 +47,9 @@ abbrev pub putFoldings : List Folding → List Folding → List Folding
 putFoldings held [] = held
 putFoldings held (f ∷ more) = putFoldings (putFolding f held) more
 
--- the plate that a text says, with a folding flag
+-- the plate that a text says, with a folding flag; 02, M-107: of the rules of one pattern the first in text order stays
 abbrev pub plateSaid : Bool → List ℕ → Plate
-plateSaid flag text = record { flag = flag; foldings = putFoldings [] (foldingsOf (saidBy text)); rules = putRules [] (rulesOf (saidBy text)) }
+plateSaid flag text = record { flag = flag; foldings = putFoldings [] (foldingsOf (saidBy text)); rules = putRules [] (once samePattern (rulesOf (saidBy text))) }
 
 -- The bytes are those of a plate that obeys the table.
 abbrev pub IsPlate : Plate → List ℕ → Type 0

@@ -4,6 +4,7 @@ ghost use Rattle.zengilvar.specs.Numbers.{built, coded};
 ghost use Rattle.promises.specs.Demands.{BuildRefuses, BuildGives, ListRefuses, ListGives, EncodeRefuses, EncodeGives, ListsChoices, EncodesFirst, PlatesKeep, TextsKeep, GivenAgain};
 ghost use Rattle.promises.specs.Once.{ListsOnce};
 ghost use Rattle.promises.specs.Before.{ListsAsBefore, EncodesAsBefore};
+ghost use Rattle.promises.specs.Unused.{UnusedAlike};
 use zengilvar::DmBuilt;
 use zengilvar::DmCoded;
 use zengilvar::dm_build;
@@ -118,4 +119,27 @@ fn encodes_as_before(plate: &[u8], name: &[u8], out: &mut [u8]) -> DmCoded
     ensures { λ r. ⌜ EncodesAsBefore (now (plate .entry)) (now (name .entry)) (now (out .entry)) (coded r (now (out .exit))) ⌝ }
 {
     dm_encode(plate, name, out)
+}
+
+// M-107: one name listed by a plate and by that plate without its unused rules.
+fn lists_without(plate: &[u8], less: &[u8], name: &[u8], out: &mut [u8], more: &mut [u8]) -> Both
+    ensures { λ r. ⌜ UnusedAlike (now (plate .entry)) (now (less .entry)) (now (out .entry)) (now (more .entry)) (coded (r .first) (now (out .exit))) (coded (r .second) (now (more .exit))) ⌝ }
+{
+    let first = dm_list(plate, name, out);
+    let second = dm_list(less, name, more);
+    Both {
+        first: first,
+        second: second,
+    }
+}
+
+fn encodes_without(plate: &[u8], less: &[u8], name: &[u8], out: &mut [u8], more: &mut [u8]) -> Both
+    ensures { λ r. ⌜ UnusedAlike (now (plate .entry)) (now (less .entry)) (now (out .entry)) (now (more .entry)) (coded (r .first) (now (out .exit))) (coded (r .second) (now (more .exit))) ⌝ }
+{
+    let first = dm_encode(plate, name, out);
+    let second = dm_encode(less, name, more);
+    Both {
+        first: first,
+        second: second,
+    }
 }

@@ -3,7 +3,7 @@
 use crate::runs::{Ready, Runs};
 use judge::made;
 use judge::random::Random;
-use judge::{plate, SMALL, STANDARD};
+use judge::{plate, Rule, SMALL, STANDARD};
 
 pub fn all(runs: &mut Runs, times: usize, seed: u64) {
     examples(runs);
@@ -48,8 +48,16 @@ fn small(runs: &mut Runs, folding: bool) -> Ready {
     runs.text(SMALL.as_bytes(), folding).expect("the paper's small text is built")
 }
 
+/// A name that has 49 branches and then 65, one more than are held: 13 codes, each with five last replacements.
+const SIXTY_FIVE: &str = "\"a\" \"111111|222222|333333|444444|555555|666666|7\" \"\" \"\"
+\"b\" \"\" \"\" \"10001|10002|10003|10004|10005|10006|10007\"
+\"c\" \"\" \"\" \"1|2|3|4|5\"
+";
+
 /// The paper's examples, and the smallest inputs of docs/DECISIONS.md.
 fn examples(runs: &mut Runs) {
+    let crowded = runs.text(SIXTY_FIVE.as_bytes(), false).expect("a text of three rules is built");
+    runs.name(&crowded, b"abc");
     for folding in [true, false] {
         let ready = small(runs, folding);
         let long = ["r".repeat(256), "r".repeat(257), " ".repeat(257), "\u{2003}".repeat(85)];
@@ -433,7 +441,7 @@ fn full_plates(runs: &mut Runs, random: &mut Random, plates: usize) {
     runs.section("full plates");
 }
 
-/// Plates with a bit turned, cut off, lengthened, or with rules in any order, and bytes that never were a plate.
+/// Plates with a bit turned, cut off, lengthened, with rules in any order or a pattern twice, and bytes that never were a plate.
 fn damaged_plates(runs: &mut Runs, random: &mut Random, plates: usize) {
     for _ in 0..plates {
         let foreign = random.once_in(3);
@@ -444,7 +452,7 @@ fn damaged_plates(runs: &mut Runs, random: &mut Random, plates: usize) {
             continue;
         };
         let mut bytes = plate::write(&content);
-        match random.below(8) {
+        match random.below(10) {
             0 => bytes.truncate(random.below(bytes.len() + 1)),
             1 => bytes.push([0, 0, 0x80, 1][random.below(4)]),
             2 => bytes = made::damaged(random, &bytes),
@@ -464,6 +472,13 @@ fn damaged_plates(runs: &mut Runs, random: &mut Random, plates: usize) {
             5 => {
                 if let Some(rule) = content.rules.first_mut() {
                     rule.pattern = ["\"", "\\", "\"\"", "a\"", "|", "\n"][random.below(6)].to_string();
+                }
+                bytes = plate::write(&content);
+            }
+            // M-107: plates of before, in which a pattern stands twice.
+            6 | 7 => {
+                if let (Some(first), Some(last)) = (content.rules.first().cloned(), content.rules.last().cloned()) {
+                    content.rules.insert(1, Rule { pattern: first.pattern, fields: last.fields });
                 }
                 bytes = plate::write(&content);
             }

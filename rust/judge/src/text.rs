@@ -1,7 +1,7 @@
 //! Rule text, item by item.
 
 use crate::{Content, Rule};
-use std::collections::BTreeMap;
+use std::collections::{BTreeMap, BTreeSet};
 
 /// The most bytes of a rule text, and of a pattern; the most alternatives, digits, rules and folding keys.
 pub const TEXT: usize = 65_536;
@@ -64,6 +64,9 @@ pub fn read(text: &[u8], folding: bool) -> Result<Content, Fault> {
         }
         rest = behind;
     }
+    // M-107: of equal patterns the first stays; all were counted.
+    let mut patterns = BTreeSet::new();
+    rules.retain(|rule| patterns.insert(rule.pattern.clone()));
     rules.sort_by(|a, b| {
         let (first, other) = (a.pattern.chars().next(), b.pattern.chars().next());
         first.cmp(&other).then(b.pattern.len().cmp(&a.pattern.len()))

@@ -31,13 +31,13 @@ abbrev entered : tie.Else2 → tie.Start
 entered c = start (short (c .before .before))
 
 abbrev surveyed : tie.After-fault → tie.After-survey
-surveyed c = c .before .before .before .before
+surveyed c = let back = c .before .before in back .before .before .before
 
 abbrev noted : tie.After-tally → tie.After-survey
-noted c = c .before .before .before .before
+noted c = let back = c .before .before in back .before .before .before
 
 abbrev good : tie.After-survey → tie.Else2
-good c = c .before .before .before
+good c = c .before .before .before .before
 
 -- ---- what is known there
 
@@ -57,7 +57,7 @@ abbrev keys : tie.After-tally → List ℕ
 keys c = noted c .survey .last .1 .0
 
 abbrev foldings : tie.After-tally → List ℕ
-foldings c = noted c .survey .last .1 .1 .0
+foldings c = noted c .survey .last .1 .1 .1 .0
 
 abbrev book : tie.After-tally → Book
 book c = bookOf (view (entered (good (noted c)) .args .text .now)) (tally c) (keys c) (foldings c)
@@ -72,7 +72,8 @@ few : (c : tie.After-tally) → (tally c .foldings ≤ 128) × (tally c .bits �
 few c =
     let k = fine c .0 in
     let pairs = k .pairs .few in
-    let rules = k .rules .few in
+    let kept = k .rules .few in
+    let rules = k .rules .fewRead in
     let bits = k .rules .fewBits in (omega arith, omega arith)
 
 size : (c : tie.After-tally) → length (bytesOf (entered (good (noted c)) .args .flag) (book c)) ≡ (32 + 42 * tally c .foldings + tally c .bits + 7) / 8
@@ -110,6 +111,9 @@ slice-aggregate-survey c = search needs
 
 slice-aggregate-survey-2 : tie.Need-slice-aggregate-survey-2
 slice-aggregate-survey-2 c = search needs
+
+slice-aggregate-survey-3 : tie.Need-slice-aggregate-survey-3
+slice-aggregate-survey-3 c = search needs
 
 survey-requires : tie.Need-survey-requires
 survey-requires c κs = search needs
@@ -166,7 +170,7 @@ returns-5 c =
     let v = verdict blank (items (a .text .now)) in
     let s = surveyed at-fault .survey in
     faulty (a .text .now) (a .flag) (a .out .now) (decides at-good) _ (at-fault .fault .given .0 .1 .0) (c .line-of .ensures)
-    (subst (SurveyIs (a .text .now) (s .last .1 .0) (s .last .1 .1 .0) v) (at-fault .fault .given .1) (s .ensures))
+    (subst (SurveyIs (a .text .now) (s .last .1 .0) (s .last .1 .1 .1 .0) v) (at-fault .fault .given .1) (s .ensures))
 
 same-length : tie.Need-same-length
 same-length c = search needs
@@ -197,6 +201,7 @@ build-spec =
     returns-3
     slice-aggregate-survey
     slice-aggregate-survey-2
+    slice-aggregate-survey-3
     survey-requires
     enum-known-fault
     line-of-requires

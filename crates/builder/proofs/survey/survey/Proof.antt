@@ -14,40 +14,40 @@ use Rattle.builder.proofs.survey.survey.Statement.{statement}
 use Rattle.builder.proofs.survey.survey.Tie as tie
 
 abbrev Inv-loop : tie.InvT-loop
-Inv-loop text keys₀ foldings₀ at₀ tally₀ keys foldings at tally =
-    SoFar text at tally keys foldings × (onward text at tally keys foldings ≡ verdict blank (items text))
+Inv-loop text keys₀ seen₀ foldings₀ at₀ tally₀ keys seen foldings at tally =
+    SoFar text at tally keys seen foldings × (onward text at tally keys foldings ≡ verdict blank (items text))
 
 abbrev μ-loop : tie.MeasureT-loop
-μ-loop text keys₀ foldings₀ at₀ tally₀ keys foldings at tally = length text - at
+μ-loop text keys₀ seen₀ foldings₀ at₀ tally₀ keys seen foldings at tally = length text - at
 
 -- ---- the places: the call of `enter`, and the loop before it
 
-abbrev called : tie.After-slice-known4 Inv-loop μ-loop → tie.After-enter Inv-loop μ-loop
-called c = c .before .before .before .before
+abbrev called : tie.After-slice-known6 Inv-loop μ-loop → tie.After-enter Inv-loop μ-loop
+called c = let keys = c .before .before .before .before in keys .before .before
 
 abbrev looped : tie.After-enter Inv-loop μ-loop → tie.At-loop Inv-loop μ-loop
-looped c = c .before .before .before .before
+looped c = let inside = c .before .before .before .before in inside .before
 
 abbrev start : tie.At-loop Inv-loop μ-loop → tie.Start Inv-loop μ-loop
-start c = c .before .before .before .before
+start c = let first = c .before .before .before .before in first .before
 
 -- What one turn says, in an arm.
-turned : (c : tie.After-slice-known4 Inv-loop μ-loop) (t : Turn) → called c .enter .result ≡ t
+turned : (c : tie.After-slice-known6 Inv-loop μ-loop) (t : Turn) → called c .enter .result ≡ t
     → let l = looped (called c) .loop in
     let e = called c .enter in
-    TurnIs (start (looped (called c)) .args .text .now) (l .at) (l .tally) (l .keys) (l .foldings) (e .last .1 .0) (e .last .1 .1 .0) t
+    TurnIs (start (looped (called c)) .args .text .now) (l .at) (l .tally) (l .keys) (l .foldings) (e .last .1 .0) (e .last .1 .1 .0) (e .last .1 .1 .1 .0) t
 turned c t is =
     let l = looped (called c) .loop in
     let e = called c .enter in
-    subst (TurnIs (start (looped (called c)) .args .text .now) (l .at) (l .tally) (l .keys) (l .foldings) (e .last .1 .0) (e .last .1 .1 .0)) is (e .ensures)
+    subst (TurnIs (start (looped (called c)) .args .text .now) (l .at) (l .tally) (l .keys) (l .foldings) (e .last .1 .0) (e .last .1 .1 .0) (e .last .1 .1 .1 .0)) is (e .ensures)
 
 loop-holds : tie.Need-loop-holds Inv-loop μ-loop
 loop-holds c =
-    let s = c .before .before .before in
-    let a = s .args in (survey-start (a .text .now) (a .keys .now) (a .foldings .now) (s .pre .0) (s .pre .1) (s .pre .2), refl)
+    let s = c .before .before .before .before in
+    let a = s .args in (survey-start (a .text .now) (a .keys .now) (a .seen .now) (a .foldings .now) (s .pre .0) (s .pre .1) (s .pre .2) (s .pre .3), refl)
 
 enter-requires : tie.Need-enter-requires Inv-loop μ-loop
-enter-requires c κs = let inside = c .before .before in (inside .before .loop .inv .0, inside .loop-test .taken)
+enter-requires c κs = let inside = c .before .before .before in (inside .before .loop .inv .0, inside .loop-test .taken)
 
 enum-known-next : tie.Need-enum-known-next Inv-loop μ-loop
 enum-known-next c = search needs
@@ -73,23 +73,27 @@ same-length c = search needs
 same-length-2 : tie.Need-same-length-2 Inv-loop μ-loop
 same-length-2 c = search needs
 
+same-length-3 : tie.Need-same-length-3 Inv-loop μ-loop
+same-length-3 c = search needs
+
 returns : tie.Need-returns Inv-loop μ-loop
 returns c =
     let known = c .before .before .before in
     sym (looped (called known) .loop .inv .1) ∙ turned known _ (c .before .fault .given .1)
 
-same-length-3 : tie.Need-same-length-3 Inv-loop μ-loop
-same-length-3 c =
-    let l = c .before in l .loop .inv .0 .noted .rules .room ∙ sym (start l .pre .1)
-
 same-length-4 : tie.Need-same-length-4 Inv-loop μ-loop
-same-length-4 c =
-    let l = c .before in l .loop .inv .0 .noted .pairs .room ∙ sym (start l .pre .2)
+same-length-4 c = let l = c .before in l .loop .inv .0 .noted .rules .room ∙ sym (start l .pre .1)
+
+same-length-5 : tie.Need-same-length-5 Inv-loop μ-loop
+same-length-5 c = let l = c .before in l .loop .inv .0 .met .0 ∙ sym (start l .pre .2)
+
+same-length-6 : tie.Need-same-length-6 Inv-loop μ-loop
+same-length-6 c = let l = c .before in l .loop .inv .0 .noted .pairs .room ∙ sym (start l .pre .3)
 
 returns-2 : tie.Need-returns-2 Inv-loop μ-loop
 returns-2 c =
     let l = c .before .loop in
-    let e = survey-end (start (c .before) .args .text .now) (l .at) (l .tally) (l .keys) (l .foldings) (l .inv .0) (c .loop-test .left) in
+    let e = survey-end (start (c .before) .args .text .now) (l .at) (l .tally) (l .keys) (l .seen) (l .foldings) (l .inv .0) (c .loop-test .left) in
     (e .0, sym (l .inv .1) ∙ e .1)
 
 pub survey-spec : {M : Type 1} → statement M
@@ -106,7 +110,9 @@ survey-spec =
     enum-known-fault
     same-length
     same-length-2
-    returns
     same-length-3
+    returns
     same-length-4
+    same-length-5
+    same-length-6
     returns-2)

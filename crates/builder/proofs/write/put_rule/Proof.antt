@@ -1,33 +1,19 @@
 -- `write::put_rule` meets its contract. At the place of a key stands the rule that was noted there (Again.viewed-again). Assumes nothing.
 use mathlib.Core.Path.{_≡_, sym, ap}
-use mathlib.Core.Logic.{_⊎_, ⊎-elim}
 use mathlib.Core.List.{List}
 use Prim.Native.Nat.{ℕ}
-use native.Mathlib.Omega.{arith}
 use borrow.Author.Needs.{needs}
 use lib.ListN.{length}
-use denote.Enum.Declared.{tagOf, declared}
 use Rattle.laws.proofs.Parts.{lent, known}
 use Rattle.rule_text.specs.Answers.{Lies}
-use Rattle.rule_text.specs.declared.Entry.{Entry}
-use Rattle.rule_text.specs.declared.Entry.the-variants as E
-use Rattle.rule_text.proofs.Entry.{enum}
 use Rattle.plate.specs.Written.{ruleBits}
 use Rattle.book.specs.Note.{placeIn}
 use Rattle.book.proofs.Inks.{ready-as, wrote-as}
 use Rattle.builder.specs.Survey.{ruleIn, view}
 use Rattle.plate.specs.Plate.{Rule}
-use Rattle.builder.proofs.Again.{IsRule, noted-rule, viewed-again, fine-again}
+use Rattle.builder.proofs.Again.{noted-rule, other-arm, viewed-again, fine-again}
 use Rattle.builder.proofs.write.put_rule.Statement.{statement}
 use Rattle.builder.proofs.write.put_rule.Tie as tie
-
--- A rule was noted at this place, so the other arm is never taken.
-other : (r : Entry) → IsRule r → (tagOf (declared enum) r ≡ 1) ⊎ ((tagOf (declared enum) r ≡ 2) ⊎ ((tagOf (declared enum) r ≡ 3) ⊎ (tagOf (declared enum) r ≡ 4))) → ⊥
-other (E.Rule four) f k = ⊎-elim (λ e. omega arith) (λ k. ⊎-elim (λ e. omega arith) (λ k. ⊎-elim (λ e. omega arith) (λ e. omega arith) k) k) k
-other (E.Folding key target next) f k = f
-other (E.LineEnd next) f k = f
-other (E.Comment next) f k = f
-other E.Unknown f k = f
 
 -- ---- the places: the start, and the rule found
 
@@ -62,7 +48,7 @@ enum-known-four c = search needs
 returns : tie.Need-returns
 returns c =
     let i = c .before in
-    let s = start i in absurd (other (i .item .result) (noted-rule (s .args .text .now) (s .args .key) (i .item .ensures .0) (s .pre .0)) (c .match .keys2))
+    let s = start i in absurd (other-arm (i .item .result) (noted-rule (s .args .text .now) (s .args .key) (i .item .ensures .0) (s .pre .0)) (c .match .keys2))
 
 put-four-requires : tie.Need-put-four-requires
 put-four-requires c κs =

@@ -28,7 +28,9 @@ put-head-requires c κs =
     let s = start c in
     let a = s .args in
     let k = s .pre .0 in
-    (k .rules .few, k .pairs .few, ready-head (view (a .text .now)) (a .tally) (a .keys .now) (a .foldings .now) (a .flag) k (s .pre .1) (c .start .ensures))
+    let kept = k .rules .few in
+    let all = k .rules .fewRead in
+    (omega arith, k .pairs .few, ready-head (view (a .text .now)) (a .tally) (a .keys .now) (a .foldings .now) (a .flag) k (s .pre .1) (c .start .ensures))
 
 put-pairs-requires : tie.Need-put-pairs-requires
 put-pairs-requires c κs =
@@ -51,6 +53,7 @@ put-rules-requires c κs =
     let a = s .args in
     let k = s .pre .0 in
     let n = k .rules .few in
+    let all = k .rules .fewRead in
     let m = k .rules .room in (
       omega arith,
       k .sure,

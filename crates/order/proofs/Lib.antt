@@ -1,0 +1,5 @@
+pub mod Leaving
+pub mod First
+pub mod Once
+pub mod Ordered
+pub mod Calls

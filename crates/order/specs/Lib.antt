@@ -1,0 +1,4 @@
+pub mod First
+pub mod Once
+pub mod Claims
+pub mod Worked
