@@ -79,7 +79,7 @@ static inline const char *dm_words(uint64_t number) {
     case DM_TOO_MANY: return "over 1,500 rules, or over 128 folded characters";
     case DM_SHORT_BUFFER: return "the buffer is shorter than the plate";
     case DM_NOT_A_PLATE: return "the plate is damaged or no plate";
-    case DM_CHARACTER_NOT_ALLOWED: return "a character that is neither white space nor below U+0180";
+    case DM_CHARACTER_NOT_ALLOWED: return "a character that is neither white space nor below U+0180 nor U+0400 to U+045F";
     case DM_ROOM_TOO_SMALL: return "the buffer is too small for the codes, or the name has over 64 codes at some step";
     default: return "a number that is not known here";
     }

@@ -14,7 +14,7 @@ void places(void) {
     at("rr\xED\xA0\x80", 5, DM_NOT_TEXT, 2);
     at("\xC3", 1, DM_NOT_TEXT, 0);
     at("ab\xC6\x80", 4, DM_CHARACTER_NOT_ALLOWED, 2);
-    at("\xE2\x80\x83\xD0\xB6", 5, DM_CHARACTER_NOT_ALLOWED, 3);
+    at("\xE2\x80\x83\xD1\xA0", 5, DM_CHARACTER_NOT_ALLOWED, 3);
     at(name, DM_NAME_MOST + 1, DM_TOO_LONG, 0);
     name[DM_NAME_MOST - 1] = '\xC3';
     at(name, DM_NAME_MOST, DM_NOT_TEXT, DM_NAME_MOST - 1);

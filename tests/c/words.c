@@ -14,7 +14,7 @@ void words(void) {
         "over 1,500 rules, or over 128 folded characters",
         "the buffer is shorter than the plate",
         "the plate is damaged or no plate",
-        "a character that is neither white space nor below U+0180",
+        "a character that is neither white space nor below U+0180 nor U+0400 to U+045F",
         "the buffer is too small for the codes, or the name has over 64 codes at some step",
         "a number that is not known here",
     };

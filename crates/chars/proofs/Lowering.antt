@@ -1,30 +1,87 @@
--- The lowercase table: ONE test at each entry, which antt computes, shows that the entry is the definition's, lies in the table, is its own
--- lowercase, and stays where the character is White_Space. From U+0180 on nothing changes. Assumes nothing.
+-- The lowercase tables: ONE test at each entry, which antt computes, shows of a table from its first character on that the entry is the definition's, lies in
+-- the table, is its own lowercase, and stays where the character is White_Space. It passes for both tables; outside them nothing changes. Assumes nothing.
 use mathlib.Core.Path.{_≡_, refl, sym, ap, subst, _∙_}
-use mathlib.Core.Bool.{Bool, true, false, not, _&&_, _||_, false≢true}
-use Prim.Native.Nat.{ℕ, _%_, _<_, _≤_}
+use mathlib.Core.Bool.{Bool, true, false, cond, not, _&&_, _||_, false≢true}
+use mathlib.Core.List.{List}
+use Prim.Native.Nat.{ℕ, _+_, _-_, _%_, _<_, _≤_}
+use native.Mathlib.Nat.{zero-add}
 use native.Mathlib.Omega.{arith}
-use borrow.Author.Tests.{eqb-true, ltb-true, ltb-false, ne-eqb}
-use lib.Dec.{ltb, eqb}
-use lib.ListN.{getD}
-use Rattle.laws.proofs.Tests.{and-true, and-right-false, above-between}
-use Rattle.laws.proofs.Table.{at}
-use Rattle.chars.specs.Letters.{latinEnd, white, capital, evenCapital, oddCapital, lowerOf}
-use Rattle.chars.specs.Table.{table}
+use borrow.Author.Tests.{eqb-true, ltb-true, ltb-false, leb-true, ne-eqb}
+use lib.Dec.{ltb, leb, eqb}
+use lib.ListN.{length, getD}
+use Rattle.laws.proofs.Tests.{and-true, and-right-false, above-between, between-true}
+use Rattle.laws.proofs.Table.{passes, at}
+use Rattle.chars.specs.Letters.{latinEnd, latin, cyrillicFirst, cyrillicLast, cyrillic, white, capital, evenCapital, oddCapital, latinLower, cyrillicLower, lowerOf}
+use Rattle.chars.specs.Table.{table, cyrillicCount, cyrillicTable}
 
--- The test, of the character c and its entry x.
-right : ℕ → ℕ → Bool
-right c x = eqb x (lowerOf c) && (ltb x latinEnd && (eqb (lowerOf x) x && (not (white c) || eqb x c)))
+-- ---- the rule, over any table
 
-right-at : (c : ℕ) → c < latinEnd → right c (getD table c 0) ≡ true
+-- The test of the k-th character from `base` on and its entry x, in a table of n.
+right : ℕ → ℕ → ℕ → ℕ → Bool
+right base n k x = eqb x (lowerOf (base + k)) && (leb base x && (ltb x (base + n) && (eqb (lowerOf x) x && (not (white (base + k)) || eqb x (base + k)))))
+
+-- What it says of the character: its entry in the table is its lowercase, which lies in the table and is its own; White_Space stays.
+pub record Lowers (base : ℕ) (entries : List ℕ) (k : ℕ) : Type 0 where
+  pub entry : getD entries k 0 ≡ lowerOf (base + k)
+  pub from : base ≤ lowerOf (base + k)
+  pub below : lowerOf (base + k) < base + length entries
+  pub twice : lowerOf (lowerOf (base + k)) ≡ lowerOf (base + k)
+  pub untouched : white (base + k) ≡ true → lowerOf (base + k) ≡ base + k
+
+shown : (base : ℕ) (entries : List ℕ) → passes (right base (length entries)) 0 entries ≡ true → (k : ℕ) → k < length entries → Lowers base entries k
+unfolding right
+shown base entries computed k h =
+    let n = length entries in
+    let c = base + k in
+    let x = getD entries k 0 in
+    let kept = not (white c) || eqb x c in
+    let t = and-true (eqb x (lowerOf c)) (leb base x && (ltb x (base + n) && (eqb (lowerOf x) x && kept))) (at (right base n) entries computed k h) in
+    let u = and-true (leb base x) (ltb x (base + n) && (eqb (lowerOf x) x && kept)) (t .1) in
+    let v = and-true (ltb x (base + n)) (eqb (lowerOf x) x && kept) (u .1) in
+    let w = and-true (eqb (lowerOf x) x) kept (v .1) in
+    let is : x ≡ lowerOf c = eqb-true x (lowerOf c) (t .0) in
+    record {
+      entry = is;
+      from = subst (λ (y : ℕ). base ≤ y) is (leb-true base x (u .0));
+      below = subst (λ (y : ℕ). y < base + n) is (ltb-true x (base + n) (v .0));
+      twice = subst (λ (y : ℕ). lowerOf y ≡ y) is (eqb-true (lowerOf x) x (w .0));
+      untouched = λ e. sym is ∙ stays c x (white c) e (w .1);
+    }
+  where
+    stays : (c x : ℕ) (b : Bool) → b ≡ true → not b || eqb x c ≡ true → x ≡ c
+    stays c x true e f = eqb-true x c f
+    stays c x false e f = absurd (false≢true e)
+
+-- ---- both tables
+
+latin-lowers : (k : ℕ) → k < latinEnd → Lowers 0 table k
 unfolding table right lowerOf capital evenCapital oddCapital white
-right-at c h = at right table refl c h
+latin-lowers k h = shown 0 table refl k h
 
--- From U+0180 on each is its own lowercase.
-pub high : (c : ℕ) → latinEnd ≤ c → lowerOf c ≡ c
+cyrillic-lowers : (k : ℕ) → k < cyrillicCount → Lowers cyrillicFirst cyrillicTable k
+unfolding cyrillicTable right lowerOf capital evenCapital oddCapital white
+cyrillic-lowers k h = shown cyrillicFirst cyrillicTable refl k h
+
+-- The entry of a character is its lowercase.
+pub latin-entry : (c : ℕ) → c < latinEnd → getD table c 0 ≡ lowerOf c
+latin-entry c h = latin-lowers c h .entry ∙ ap lowerOf (zero-add c)
+
+module _ (c : ℕ) (first : cyrillicFirst ≤ c) (last : c ≤ cyrillicLast) where
+  within : c - cyrillicFirst < cyrillicCount
+  within = omega arith
+
+  again : cyrillicFirst + (c - cyrillicFirst) ≡ c
+  again = omega arith
+
+  pub cyrillic-entry : getD cyrillicTable (c - cyrillicFirst) 0 ≡ lowerOf c
+  cyrillic-entry = cyrillic-lowers (c - cyrillicFirst) within .entry ∙ ap lowerOf again
+
+-- What has no entry is its own lowercase.
+pub untabled : (c : ℕ) → latinEnd ≤ c → cyrillic c ≡ false → lowerOf c ≡ c
 unfolding lowerOf capital evenCapital oddCapital
-high c h =
-    simp (
+untabled c h e =
+    ap (λ (t : Bool). cond t (cyrillicLower c) (latinLower c)) e
+    ∙ simp (
       above-between 0x41 0x5A c (omega arith),
       above-between 0xC0 0xD6 c (omega arith),
       above-between 0xD8 0xDE c (omega arith),
@@ -39,42 +96,26 @@ high c h =
       ne-eqb c 0x178 (λ e. omega arith),
     )
 
-module _ (c : ℕ) (h : c < latinEnd) where
-  -- what the test says of the entry of c
-  facts : (getD table c 0 ≡ lowerOf c) × (getD table c 0 < latinEnd) × (lowerOf (getD table c 0) ≡ getD table c 0) × (not (white c) || eqb (getD table c 0) c ≡ true)
-  unfolding right
-  facts =
-      let x = getD table c 0 in
-      let kept = not (white c) || eqb x c in
-      let t = and-true (eqb x (lowerOf c)) (ltb x latinEnd && (eqb (lowerOf x) x && kept)) (right-at c h) in
-      let u = and-true (ltb x latinEnd) (eqb (lowerOf x) x && kept) (t .1) in
-      let v = and-true (eqb (lowerOf x) x) kept (u .1) in
-      (eqb-true x (lowerOf c) (t .0), ltb-true x latinEnd (u .0), eqb-true (lowerOf x) x (v .0), v .1)
-
-  -- The entry is the lowercase of its place.
-  pub entry : getD table c 0 ≡ lowerOf c
-  entry = facts .0
-
-  -- The lowercase of a character in the table is in the table.
-  pub small : lowerOf c < latinEnd
-  small = subst (λ (x : ℕ). x < latinEnd) (facts .0) (facts .1)
-
-by-place : (c : ℕ) (P : Type 0) → (c < latinEnd → P) → (latinEnd ≤ c → P) → P
-by-place c P f g = go (ltb c latinEnd) refl
+-- What holds of a character of either table, and of one that is its own lowercase, holds of each.
+by-table : (P : ℕ → Type 0) → ((base : ℕ) (entries : List ℕ) (k : ℕ) → Lowers base entries k → P (base + k)) → ((c : ℕ) → lowerOf c ≡ c → P c) → (c : ℕ) → P c
+by-table P tabled other c = go (latin c) (cyrillic c) refl refl
   where
-    go : (t : Bool) → ltb c latinEnd ≡ t → P
-    go true e = f (ltb-true c latinEnd e)
-    go false e = g (ltb-false c latinEnd e)
+    go : (l r : Bool) → latin c ≡ l → cyrillic c ≡ r → P c
+    go true r e f = subst P (zero-add c) (tabled 0 table c (latin-lowers c (ltb-true c latinEnd e)))
+    go false true e f =
+        let b = between-true cyrillicFirst cyrillicLast c f in
+        subst P (again c (b .0) (b .1)) (tabled cyrillicFirst cyrillicTable (c - cyrillicFirst) (cyrillic-lowers (c - cyrillicFirst) (within c (b .0) (b .1))))
+    go false false e f = other c (untabled c (ltb-false c latinEnd e) f)
 
 -- Lowering twice equals once.
 pub twice : (c : ℕ) → lowerOf (lowerOf c) ≡ lowerOf c
-twice c =
-    by-place c (lowerOf (lowerOf c) ≡ lowerOf c) (λ h. subst (λ (x : ℕ). lowerOf x ≡ x) (facts c h .0) (facts c h .2)) (λ h. ap lowerOf (high c h))
+twice = by-table (λ c. lowerOf (lowerOf c) ≡ lowerOf c) (λ base entries k l. l .twice) (λ c e. ap lowerOf e)
 
 -- White space is untouched.
 pub untouched : (c : ℕ) → white c ≡ true → lowerOf c ≡ c
-untouched c w = by-place c (lowerOf c ≡ c) (λ h. sym (facts c h .0) ∙ kept (white c) w (facts c h .3)) (high c)
-  where
-    kept : (t : Bool) → t ≡ true → not t || eqb (getD table c 0) c ≡ true → getD table c 0 ≡ c
-    kept true e k = eqb-true (getD table c 0) c k
-    kept false e k = absurd (false≢true e)
+untouched = by-table (λ c. white c ≡ true → lowerOf c ≡ c) (λ base entries k l. l .untouched) (λ c e w. e)
+
+-- Outside the second table lowering is as it was without it.
+pub as-before : (c : ℕ) → cyrillic c ≡ false → lowerOf c ≡ latinLower c
+unfolding lowerOf
+as-before c e = ap (λ (t : Bool). cond t (cyrillicLower c) (latinLower c)) e

@@ -10,15 +10,28 @@ white c =
     between 0x0009 0x000D c || (eqb c 0x0020 || (eqb c 0x0085 || (eqb c 0x00A0 || (eqb c 0x1680 || (between 0x2000 0x200A c
     || (eqb c 0x2028 || (eqb c 0x2029 || (eqb c 0x202F || (eqb c 0x205F || eqb c 0x3000)))))))))
 
--- the first character behind the lowercase table, U+0180
+-- "below U+0180"
 abbrev pub latinEnd : ℕ
 latinEnd = 0x180
 
--- "below U+0180": it has an entry in the lowercase table
-abbrev pub tabled : ℕ → Bool
-tabled c = ltb c latinEnd
+abbrev pub latin : ℕ → Bool
+latin c = ltb c latinEnd
 
--- What may stand in a name. 11: "name holds a character neither White_Space nor below U+0180".
+-- 02, M-113: "U+0400 to U+045F"
+abbrev pub cyrillicFirst : ℕ
+cyrillicFirst = 0x400
+
+abbrev pub cyrillicLast : ℕ
+cyrillicLast = 0x45F
+
+abbrev pub cyrillic : ℕ → Bool
+cyrillic c = between cyrillicFirst cyrillicLast c
+
+-- It has an entry in a lowercase table.
+abbrev pub tabled : ℕ → Bool
+tabled c = latin c || cyrillic c
+
+-- What may stand in a name. 11: "name holds a character neither White_Space nor below U+0180"; 02, M-113: "refusal 11 now excludes that range too".
 abbrev pub allowed : ℕ → Bool
 allowed c = white c || tabled c
 
@@ -37,12 +50,19 @@ unfoldable pub oddCapital : ℕ → Bool
 oddCapital c = eqb (c % 2) 1 && (between 0x139 0x148 c || between 0x179 0x17E c)
 
 -- İ (U+0130) gives i, Ÿ (U+0178) gives ÿ (U+00FF); every other character, ſ (U+017F) among them, is its own lowercase.
-unfoldable pub lowerOf : ℕ → ℕ
-lowerOf c =
+abbrev pub latinLower : ℕ → ℕ
+latinLower c =
     cond (capital c) (c + 32)
     (cond (evenCapital c || oddCapital c) (c + 1)
     (cond (eqb c 0x130) 0x69
     (cond (eqb c 0x178) 0xFF c)))
+
+-- 02, M-113: "U+0400 to 040F lower by adding 80, U+0410 to 042F by adding 32."
+abbrev pub cyrillicLower : ℕ → ℕ
+cyrillicLower c = cond (between 0x400 0x40F c) (c + 80) (cond (between 0x410 0x42F c) (c + 32) c)
+
+unfoldable pub lowerOf : ℕ → ℕ
+lowerOf c = cond (cyrillic c) (cyrillicLower c) (latinLower c)
 
 -- 01: "a, e, i, o or u".
 unfoldable pub vowel : ℕ → Bool

@@ -6,7 +6,7 @@ use lib.Dec.{T, eqb}
 use lib.ListN.{drop}
 use Rattle.laws.specs.Lists.{every, same}
 use Rattle.chars.specs.Utf8.{textFrom, isText, charsFrom, charsOf, soundFrom, badPlace, failPlace}
-use Rattle.chars.specs.Letters.{tabled}
+use Rattle.chars.specs.Letters.{capital, evenCapital, oddCapital, lowerOf, tabled}
 use Rattle.chars.specs.Quoted.{bytes}
 
 -- bytes that are not UTF-8
@@ -47,10 +47,16 @@ begun =
 
 -- where the first character from U+0180 on begins
 abbrev foreign : Bool
-foreign = eqb (failPlace tabled (bytes "abƀ")) 2 && eqb (failPlace tabled (bytes "éƀaж")) 2
+foreign = eqb (failPlace tabled (bytes "abƀ")) 2 && eqb (failPlace tabled (bytes "éƀaѡ")) 2
+
+-- 02, M-113: "U+0400 to 040F lower by adding 80, U+0410 to 042F by adding 32", and no character beyond the range
+abbrev second : Bool
+second =
+    eqb (lowerOf 0x400) 0x450 && eqb (lowerOf 0x40F) 0x45F && eqb (lowerOf 0x410) 0x430 && eqb (lowerOf 0x42F) 0x44F && eqb (lowerOf 0x430) 0x430
+    && eqb (lowerOf 0x45F) 0x45F && tabled 0x400 && tabled 0x45F && not (tabled 0x3FF) && not (tabled 0x460)
 
 -- What is ill-formed is refused, what is well-formed is read; and no other character, and no other byte, for any of them.
 pub worked : T (every refused bad && isText edgeBytes && same (charsOf edgeBytes) edges && same (bytes "aÀ€😀") quoted
-    && not (same (charsOf edgeBytes) (0x01 ∷ drop 1 edges)) && not (same (charsOf edgeBytes) (drop 1 edges)) && not (same (bytes "aÀ€😁") quoted) && begun && foreign)
-unfolding textFrom charsFrom soundFrom
+    && not (same (charsOf edgeBytes) (0x01 ∷ drop 1 edges)) && not (same (charsOf edgeBytes) (drop 1 edges)) && not (same (bytes "aÀ€😁") quoted) && begun && foreign && second)
+unfolding textFrom charsFrom soundFrom lowerOf capital evenCapital oddCapital
 worked = tt

@@ -1,9 +1,12 @@
 // White_Space, what a name may hold, and vowels.
 ghost use mathlib.Core.Path.{_≡_};
-ghost use Rattle.chars.specs.Letters.{white, tabled};
+ghost use Rattle.chars.specs.Letters.{white, cyrillic, tabled};
 ghost use Rattle.chars.specs.Answers.{vowelNext};
+use super::CYRILLIC_FIRST;
+use super::CYRILLIC_LAST;
 use super::LATIN;
 use super::Next;
+use super::utf8::is_between;
 
 pub fn is_space(c: u32) -> bool
     ensures { λ r. ⌜ r ≡ white c ⌝ }
@@ -24,11 +27,20 @@ pub fn is_space(c: u32) -> bool
     }
 }
 
-// It has an entry in the lowercase table: apart from White_Space, what a name may hold.
+// It has an entry in a lowercase table: apart from White_Space, what a name may hold.
 pub fn is_tabled(c: u32) -> bool
     ensures { λ r. ⌜ r ≡ tabled c ⌝ }
 {
-    c < LATIN as u32
+    if c < LATIN as u32 {
+        return true;
+    }
+    is_cyrillic(c)
+}
+
+pub(crate) fn is_cyrillic(c: u32) -> bool
+    ensures { λ r. ⌜ r ≡ cyrillic c ⌝ }
+{
+    is_between(CYRILLIC_FIRST, CYRILLIC_LAST, c)
 }
 
 // None is no vowel.

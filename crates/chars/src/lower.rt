@@ -1,8 +1,12 @@
-// Lowercase of U+0000 to U+017F, by a table. Every other character is its own lowercase.
+// Lowercase of U+0000 to U+017F and of U+0400 to U+045F, each by a table. Every other character is its own lowercase.
 ghost use mathlib.Core.Path.{_≡_};
-ghost use Rattle.chars.specs.Letters.{lowerOf};
-ghost use Rattle.chars.specs.Table.{table};
+ghost use Prim.Native.Nat.{_≤_};
+ghost use Rattle.chars.specs.Letters.{latinEnd, lowerOf};
+ghost use Rattle.chars.specs.Table.{table, cyrillicTable};
+use super::CYRILLIC;
+use super::CYRILLIC_FIRST;
 use super::LATIN;
+use super::letters::is_cyrillic;
 
 fn wide(x: u16) -> u32
     ensures { λ r. ⌜ r ≡ x ⌝ }
@@ -22,9 +26,28 @@ pub fn lower(t: &[u16; LATIN], c: u32) -> u32
     ensures { λ r. ⌜ r ≡ lowerOf c ⌝ }
 {
     if LATIN as u32 <= c {
-        return c;
+        return lower_beyond(c);
     }
     wide(t[c as usize])
+}
+
+// The second table is named where it is needed: it is small, and most names have no use for it.
+fn cyrillic_lowers() -> [u16; CYRILLIC]
+    ensures { λ r. ⌜ r ≡ cyrillicTable ⌝ }
+{
+    CYRILLIC_LOWER
+}
+
+// Behind the first table.
+fn lower_beyond(c: u32) -> u32
+    requires { ⌜ latinEnd ≤ c ⌝ }
+    ensures { λ r. ⌜ r ≡ lowerOf c ⌝ }
+{
+    if !is_cyrillic(c) {
+        return c;
+    }
+    let t = cyrillic_lowers();
+    wide(t[(c - CYRILLIC_FIRST) as usize])
 }
 
 const LOWER: [u16; LATIN] = [
@@ -412,4 +435,103 @@ const LOWER: [u16; LATIN] = [
     382,
     382,
     383,
+];
+
+const CYRILLIC_LOWER: [u16; CYRILLIC] = [
+    1104,
+    1105,
+    1106,
+    1107,
+    1108,
+    1109,
+    1110,
+    1111,
+    1112,
+    1113,
+    1114,
+    1115,
+    1116,
+    1117,
+    1118,
+    1119,
+    1072,
+    1073,
+    1074,
+    1075,
+    1076,
+    1077,
+    1078,
+    1079,
+    1080,
+    1081,
+    1082,
+    1083,
+    1084,
+    1085,
+    1086,
+    1087,
+    1088,
+    1089,
+    1090,
+    1091,
+    1092,
+    1093,
+    1094,
+    1095,
+    1096,
+    1097,
+    1098,
+    1099,
+    1100,
+    1101,
+    1102,
+    1103,
+    1072,
+    1073,
+    1074,
+    1075,
+    1076,
+    1077,
+    1078,
+    1079,
+    1080,
+    1081,
+    1082,
+    1083,
+    1084,
+    1085,
+    1086,
+    1087,
+    1088,
+    1089,
+    1090,
+    1091,
+    1092,
+    1093,
+    1094,
+    1095,
+    1096,
+    1097,
+    1098,
+    1099,
+    1100,
+    1101,
+    1102,
+    1103,
+    1104,
+    1105,
+    1106,
+    1107,
+    1108,
+    1109,
+    1110,
+    1111,
+    1112,
+    1113,
+    1114,
+    1115,
+    1116,
+    1117,
+    1118,
+    1119,
 ];

@@ -11,7 +11,7 @@ ghost use Rattle.chars.specs.declared.Char.the-variants.{One, Bad};
 use super::Char;
 use super::Checked;
 
-fn is_between(low: u32, high: u32, n: u32) -> bool
+pub(crate) fn is_between(low: u32, high: u32, n: u32) -> bool
     ensures { λ r. ⌜ r ≡ between low high n ⌝ }
 {
     if low <= n { n <= high } else { false }

@@ -34,7 +34,11 @@ pub fn name_words(out: &mut [u8], pen: Pen, number: u64, name: &[u8], place: usi
         10 => put(out, pen, b"the plate is damaged or no plate"),
         11 => {
             let pen = put_strange(out, pen, name, place);
-            put(out, pen, b" is neither white space nor below U+0180")
+            put(
+                out,
+                pen,
+                b" is neither white space nor below U+0180 nor U+0400 to U+045F",
+            )
         }
         12 => put(out, pen, b"the name has over 64 codes at some step"),
         _ => put(out, pen, b"refused"),

@@ -3,16 +3,17 @@
 use Prim.Native.Nat.{ℕ, _<_, _≤_}
 use mathlib.Core.Path.{_≡_, refl, sym, ap, _∙_}
 use mathlib.Core.Logic.{_⊎_, inl, inr, ⊎-elim}
-use mathlib.Core.Bool.{Bool, true, _&&_}
+use mathlib.Core.Bool.{Bool, true, false, cond, _&&_, false≢true}
 use mathlib.Core.List.{List, [], _∷_, _++_}
 use native.Mathlib.Omega.{arith}
 use borrow.Author.Tests.{ltb-true, leb-true, eqb-true, lt-ltb, le-leb, eq-eqb}
 use lib.Dec.{ltb, leb, eqb}
 use lib.ListN.{length, length-append}
-use Rattle.laws.specs.Lists.{every}
+use Rattle.laws.specs.Lists.{every, keep}
 use Rattle.laws.proofs.Tests.{and-true, both-true, or-true, or-left, or-right}
 use Rattle.laws.proofs.Many.{every-append}
-use Rattle.plate.specs.Plate.{Rule, Plate, goodRule, goodPlate, firstCode, mayPrecede, ordered, samePattern}
+use Rattle.laws.proofs.Same.{same-equal}
+use Rattle.plate.specs.Plate.{Rule, Plate, goodRule, goodPlate, firstCode, mayPrecede, ordered, ofPattern, samePattern}
 use Rattle.plate.proofs.Halves.{ordered-tail}
 use Rattle.plate.proofs.Round.{GoodIs, good-is, is-good}
 use Rattle.order.specs.Once.{withRules, oncePlate}
@@ -36,7 +37,7 @@ may r q (inl k) = or-left (ltb (firstCode r) (firstCode q)) _ (lt-ltb (firstCode
 may r q (inr k) =
     or-right (ltb (firstCode r) (firstCode q)) _ (both-true (eq-eqb (firstCode r) (firstCode q) (k .0)) (le-leb (length (q .pattern)) (length (r .pattern)) (k .1)))
 
-pub may-trans : (r q x : Rule) → mayPrecede r q ≡ true → mayPrecede q x ≡ true → mayPrecede r x ≡ true
+may-trans : (r q x : Rule) → mayPrecede r q ≡ true → mayPrecede q x ≡ true → mayPrecede r x ≡ true
 may-trans r q x h k = may r x (go (before r q h) (before q x k))
   where
     go : Before r q → Before q x → Before r x
@@ -46,8 +47,33 @@ may-trans r q x h k = may r x (go (before r q h) (before q x k))
     go (inr a) (inr b) = let m = a .1 in let n = b .1 in inr (a .0 ∙ b .0, omega arith)
 
 -- A rule may precede one of its own pattern.
-pub may-same : (q r : Rule) → q .pattern ≡ r .pattern → mayPrecede q r ≡ true
+may-same : (q r : Rule) → q .pattern ≡ r .pattern → mayPrecede q r ≡ true
 may-same q r e = ap (λ (p : List ℕ). mayPrecede q (record { pattern = p; start = []; vowel = []; other = [] })) (sym e) ∙ may q q (inr (refl, omega arith))
+
+-- ---- where a rule is put
+
+-- Where a rule may not precede another, none that it may precede may.
+not-may : (r q x : Rule) → mayPrecede q r ≡ false → mayPrecede q x ≡ true → mayPrecede x r ≡ false
+not-may r q x e h = go (mayPrecede x r) refl
+  where
+    go : (t : Bool) → mayPrecede x r ≡ t → t ≡ false
+    go true f = absurd (false≢true (sym e ∙ may-trans q x r h f))
+    go false f = refl
+
+-- A rule that may not precede another is not of its pattern.
+other-pattern : (r q : Rule) (more : List Rule) → mayPrecede q r ≡ false → keep (ofPattern (r .pattern)) (q ∷ more) ≡ keep (ofPattern (r .pattern)) more
+other-pattern r q more e = go (ofPattern (r .pattern) q) refl
+  where
+    go : (t : Bool) → ofPattern (r .pattern) q ≡ t → cond t (q ∷ keep (ofPattern (r .pattern)) more) (keep (ofPattern (r .pattern)) more) ≡ keep (ofPattern (r .pattern)) more
+    go true f = absurd (false≢true (sym e ∙ may-same q r (same-equal (q .pattern) (r .pattern) f)))
+    go false f = refl
+
+-- Where the first may not precede a rule, neither it nor one behind it has the rule's pattern.
+pub none-of : (r q : Rule) (more : List Rule) → ordered (q ∷ more) ≡ true → mayPrecede q r ≡ false → keep (ofPattern (r .pattern)) (q ∷ more) ≡ []
+none-of r q [] o e = other-pattern r q [] e
+none-of r q (x ∷ more) o e =
+    let b = and-true (mayPrecede q x) (ordered (x ∷ more)) o in
+    other-pattern r q (x ∷ more) e ∙ none-of r x more (b .1) (not-may r q x e (b .0))
 
 -- ---- without one rule
 

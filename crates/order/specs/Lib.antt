@@ -1,4 +1,5 @@
 pub mod First
 pub mod Once
+pub mod Order
 pub mod Claims
 pub mod Worked

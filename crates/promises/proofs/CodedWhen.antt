@@ -6,14 +6,14 @@ use mathlib.Core.Bool.{Bool, true, false, cond, _&&_, _||_, false≢true}
 use mathlib.Core.Option.{Option, none, some}
 use mathlib.Core.List.{List, [], _∷_, _++_, map}
 use native.Mathlib.Omega.{arith}
-use borrow.Author.Tests.{ltb-true, ltb-false, le-ltb}
-use lib.Dec.{ltb}
+use borrow.Author.Tests.{ltb-true, ltb-false, le-ltb, leb-false}
+use lib.Dec.{ltb, leb}
 use lib.ListN.{length}
-use Rattle.laws.specs.Lists.{In, every}
-use Rattle.laws.proofs.Tests.{or-true, neither}
+use Rattle.laws.specs.Lists.{In, every, between}
+use Rattle.laws.proofs.Tests.{or-true, neither, below-between, above-between}
 use Rattle.laws.proofs.Members.{in-every}
 use Rattle.chars.specs.Utf8.{isText, charsOf, badPlace, failPlace}
-use Rattle.chars.specs.Letters.{white, latinEnd, tabled, allowed}
+use Rattle.chars.specs.Letters.{white, latinEnd, latin, cyrillicFirst, cyrillicLast, cyrillic, tabled, allowed}
 use Rattle.plate.specs.Plate.{Rule, Plate}
 use Rattle.plate.specs.Read.{readPlate}
 use Rattle.plate.proofs.Packed.{Bytes}
@@ -28,7 +28,7 @@ use Rattle.coder.specs.Given.{usesIn}
 use Rattle.coder.proofs.Answers.{judged}
 use Rattle.coder.proofs.Demands.{some-inj}
 use Rattle.promises.specs.Said.{IsPlate}
-use Rattle.promises.specs.When.{Check, NotAPlate, Strange, Overfull, NameNumber}
+use Rattle.promises.specs.When.{Check, NotAPlate, Foreign, Strange, Overfull, NameNumber}
 
 -- ---- one that fails a test
 
@@ -50,20 +50,35 @@ read-plate bytes p b e = let x = plate-exact bytes p b e in (x .1, x .0)
 
 -- ---- names
 
--- A character that may not stand in a name is neither White_Space nor below U+0180, and one that is neither may not.
-pub foreign : (c : ℕ) → allowed c ≡ false → (white c ≡ false) × (latinEnd ≤ c)
-foreign c e = let n = neither (white c) (tabled c) e in (n .0, ltb-false c latinEnd (n .1))
+-- A number that does not pass `between` lies below or above.
+outside : (low high n : ℕ) → between low high n ≡ false → (n < low) ⊎ (high < n)
+outside low high n e = go (leb low n) (leb n high) refl refl e
+  where
+    go : (a b : Bool) → leb low n ≡ a → leb n high ≡ b → a && b ≡ false → (n < low) ⊎ (high < n)
+    go false b f g h = inl (leb-false low n f)
+    go true false f g h = inr (leb-false n high g)
+    go true true f g h = absurd (false≢true (sym h))
 
-pub not-allowed : (c : ℕ) → white c ≡ false → latinEnd ≤ c → allowed c ≡ false
-not-allowed c inked high = ap (λ (t : Bool). t || tabled c) inked ∙ le-ltb c latinEnd high
+-- A character that may not stand in a name is foreign, and a foreign one may not.
+pub foreign : (c : ℕ) → allowed c ≡ false → Foreign c
+foreign c e =
+    let n = neither (white c) (tabled c) e in
+    let m = neither (latin c) (cyrillic c) (n .1) in record { inked = n .0; high = ltb-false c latinEnd (m .0); apart = outside cyrillicFirst cyrillicLast c (m .1) }
+
+pub not-allowed : (c : ℕ) → Foreign c → allowed c ≡ false
+not-allowed c f = ap (λ (t : Bool). t || tabled c) (f .inked) ∙ ap (λ (t : Bool). t || cyrillic c) (le-ltb c latinEnd (f .high)) ∙ beyond (f .apart)
+  where
+    beyond : (c < cyrillicFirst) ⊎ (cyrillicLast < c) → cyrillic c ≡ false
+    beyond (inl h) = below-between cyrillicFirst cyrillicLast c h
+    beyond (inr h) = above-between cyrillicFirst cyrillicLast c h
 
 pub strange : (name : List ℕ) → every allowed (charsOf name) ≡ false → Strange name
 strange name e =
     let x = every-false allowed (charsOf name) e in
-    let n = foreign (x .0) (x .2) in record { c = x .0; among = x .1; inked = n .0; high = n .1 }
+    record { c = x .0; among = x .1; foreign = foreign (x .0) (x .2) }
 
 pub not-strange : (name : List ℕ) → every allowed (charsOf name) ≡ true → Strange name → ⊥
-not-strange name e s = false≢true (sym (not-allowed (s .c) (s .inked) (s .high)) ∙ in-every allowed (charsOf name) (s .c) e (s .among))
+not-strange name e s = false≢true (sym (not-allowed (s .c) (s .foreign)) ∙ in-every allowed (charsOf name) (s .c) e (s .among))
 
 -- The checks of a name in front of a call whose own number meets its own check.
 named-number : (call : List Use → List ℕ → code.Coded) (rs : List Rule) (cs lent : List ℕ) (long text fine : Bool) (foreign broken : ℕ) (w₁ w₂ w₁₁ w₁₂ : Type 0)

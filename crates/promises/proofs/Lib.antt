@@ -14,3 +14,7 @@ pub mod Once
 pub mod Placed
 pub mod Before
 pub mod Unused
+pub mod Orders
+pub mod OrderTexts
+pub mod Order
+pub mod Latin

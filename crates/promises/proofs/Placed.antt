@@ -38,7 +38,7 @@ all-allowed cs h = go (every allowed cs) refl
 strange-only : (name : List ℕ) (place : ℕ) → StrangeAt name place → place ≡ failPlace allowed name
 strange-only name place s =
     fail-only name place (s .text) allowed (s .c) (s .width) (all-allowed (charsOf (take place name)) (λ e. s .none (strange (take place name) e))) (s .stands)
-    (not-allowed (s .c) (s .inked) (s .high))
+    (not-allowed (s .c) (s .foreign))
 
 pub place-only : (name : List ℕ) (n n′ place place′ : ℕ) → n ≡ n′ → Placed name n place → Placed name n′ place′ → place ≡ place′
 place-only name n n′ place place′ e a c = go (eqb n 2) (eqb n 11) refl refl
@@ -67,8 +67,7 @@ strange-at name text fails =
       text = f .text;
       none = λ s. not-strange (take (failPlace allowed name) name) (f .pass) s;
       stands = f .stands;
-      inked = foreign (f .c) (f .fails) .0;
-      high = foreign (f .c) (f .fails) .1;
+      foreign = foreign (f .c) (f .fails);
     }
   where
     f : FailsAt allowed name (failPlace allowed name)

@@ -10,3 +10,6 @@ pub mod Once
 pub mod Place
 pub mod Before
 pub mod Unused
+pub mod Order
+pub mod Latin
+pub mod Cyrillic

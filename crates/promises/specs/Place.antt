@@ -34,8 +34,8 @@ cases =
     ∷ at (0xC6 ∷ 0x80 ∷ 0xFF ∷ []) 2 2
     -- 11 in bytes, not in characters; U+2003 is White_Space
     ∷ at (bytes "abƀ") 11 2
-    ∷ at (bytes "\u{2003}ж") 11 3
-    ∷ at (bytes "éƀж") 11 2
+    ∷ at (bytes "\u{2003}ѡ") 11 3
+    ∷ at (bytes "éƀѡ") 11 2
     -- "all other answers return 0"
     ∷ at (replicate 257 0x72) 1 0
     ∷ at (replicate 256 0x72 ++ (0xC3 ∷ [])) 1 0
@@ -48,7 +48,7 @@ abbrev wrong : List Case
 wrong =
     at (0x61 ∷ 0xE2 ∷ 0x82 ∷ 0x61 ∷ []) 2 3
     ∷ at (0xC3 ∷ []) 2 1
-    ∷ at (bytes "\u{2003}ж") 11 1
+    ∷ at (bytes "\u{2003}ѡ") 11 1
     ∷ at (0xC6 ∷ 0x80 ∷ 0xFF ∷ []) 2 0
     ∷ at (0xC6 ∷ 0x80 ∷ 0xFF ∷ []) 11 0
     ∷ at (replicate 256 0x72 ++ (0xC3 ∷ [])) 1 256

@@ -10,7 +10,7 @@ use lib.ListN.{length, take, drop}
 use Rattle.laws.specs.Lists.{In, some}
 use Rattle.chars.specs.Utf8.{charOf, isText, charsOf}
 use Rattle.chars.specs.declared.Char.the-variants.{One, Bad}
-use Rattle.chars.specs.Letters.{white, latinEnd}
+use Rattle.chars.specs.Letters.{white, latinEnd, cyrillicFirst, cyrillicLast}
 use Rattle.rule_text.specs.Items.{Saying, Item, items, lineOf}
 use Rattle.rule_text.specs.Items.Saying.{RuleItem, FoldingItem, LineEndItem, CommentItem, UnknownItem}
 use Rattle.rule_text.specs.Fields.{alternatives}
@@ -33,12 +33,17 @@ Check n m when else = (when × (n ≡ m)) ⊎ ((when → ⊥) × else)
 abbrev pub NotAPlate : List ℕ → Type 0
 NotAPlate bytes = (p : Plate) → IsPlate p bytes → ⊥
 
--- 11: "name holds a character neither White_Space nor below U+0180"
+-- 11: "a character neither White_Space nor below U+0180"; 02, M-113: "refusal 11 now excludes that range too", U+0400 to U+045F
+pub record Foreign (c : ℕ) : Type 0 where
+  pub inked : white c ≡ false
+  pub high : latinEnd ≤ c
+  pub apart : (c < cyrillicFirst) ⊎ (cyrillicLast < c)
+
+-- "name holds" one
 pub record Strange (name : List ℕ) : Type 0 where
   pub c : ℕ
   pub among : In c (charsOf name)
-  pub inked : white c ≡ false
-  pub high : latinEnd ≤ c
+  pub foreign : Foreign c
 
 -- 02, M-101, with 2: "the first byte of the earliest sequence that is not UTF-8". What stands before it is UTF-8, and at it stands no character.
 abbrev pub BadAt : List ℕ → ℕ → Type 0
@@ -51,8 +56,7 @@ pub record StrangeAt (name : List ℕ) (place : ℕ) : Type 0 where
   pub text : isText (take place name) ≡ true
   pub none : Strange (take place name) → ⊥
   pub stands : charOf (drop place name) ≡ One c width
-  pub inked : white c ≡ false
-  pub high : latinEnd ≤ c
+  pub foreign : Foreign c
 
 -- "refusals 2 and 11 of encode and list return that place, all other answers return 0."
 pub record Placed (name : List ℕ) (n place : ℕ) : Type 0 where

@@ -5,6 +5,8 @@ ghost use Rattle.promises.specs.Demands.{BuildRefuses, BuildGives, ListR
 ghost use Rattle.promises.specs.Once.{ListsOnce};
 ghost use Rattle.promises.specs.Before.{ListsAsBefore, EncodesAsBefore};
 ghost use Rattle.promises.specs.Unused.{UnusedAlike};
+ghost use Rattle.promises.specs.Order.{OrderFree};
+ghost use Rattle.promises.specs.Latin.{ListsLatin, EncodesLatin};
 use zengilvar::DmBuilt;
 use zengilvar::DmCoded;
 use zengilvar::dm_build;
@@ -142,4 +144,76 @@ fn encodes_without(plate: &[u8], less: &[u8], name: &[u8], out: &mut [u8], more:
         first: first,
         second: second,
     }
+}
+
+// What two builds answer, and two calls by the plates that they wrote.
+struct Four {
+    pub one: DmBuilt,
+    pub two: DmBuilt,
+    pub first: DmCoded,
+    pub second: DmCoded,
+}
+
+// M-113: one name listed by the plates of two texts that say the same in another order.
+fn lists_reordered(
+    text: &[u8],
+    other: &[u8],
+    folding: bool,
+    plate: &mut [u8],
+    plate2: &mut [u8],
+    name: &[u8],
+    out: &mut [u8],
+    more: &mut [u8],
+) -> Four
+    ensures { λ r. ⌜ OrderFree (now (text .entry)) (now (other .entry)) (built (r .one) (now (plate .exit))) (built (r .two) (now (plate2 .exit)))
+        (now (out .entry)) (now (more .entry)) (coded (r .first) (now (out .exit))) (coded (r .second) (now (more .exit))) ⌝ }
+{
+    let b = dm_build(text, folding, plate);
+    let c = dm_build(other, folding, plate2);
+    let first = dm_list(&plate[..b.length as usize], name, out);
+    let second = dm_list(&plate2[..c.length as usize], name, more);
+    Four {
+        one: b,
+        two: c,
+        first: first,
+        second: second,
+    }
+}
+
+fn encodes_reordered(
+    text: &[u8],
+    other: &[u8],
+    folding: bool,
+    plate: &mut [u8],
+    plate2: &mut [u8],
+    name: &[u8],
+    out: &mut [u8],
+    more: &mut [u8],
+) -> Four
+    ensures { λ r. ⌜ OrderFree (now (text .entry)) (now (other .entry)) (built (r .one) (now (plate .exit))) (built (r .two) (now (plate2 .exit)))
+        (now (out .entry)) (now (more .entry)) (coded (r .first) (now (out .exit))) (coded (r .second) (now (more .exit))) ⌝ }
+{
+    let b = dm_build(text, folding, plate);
+    let c = dm_build(other, folding, plate2);
+    let first = dm_encode(&plate[..b.length as usize], name, out);
+    let second = dm_encode(&plate2[..c.length as usize], name, more);
+    Four {
+        one: b,
+        two: c,
+        first: first,
+        second: second,
+    }
+}
+
+// M-113: a name without Cyrillic is coded as before.
+fn lists_latin(plate: &[u8], name: &[u8], out: &mut [u8]) -> DmCoded
+    ensures { λ r. ⌜ ListsLatin (now (plate .entry)) (now (name .entry)) (now (out .entry)) (coded r (now (out .exit))) ⌝ }
+{
+    dm_list(plate, name, out)
+}
+
+fn encodes_latin(plate: &[u8], name: &[u8], out: &mut [u8]) -> DmCoded
+    ensures { λ r. ⌜ EncodesLatin (now (plate .entry)) (now (name .entry)) (now (out .entry)) (coded r (now (out .exit))) ⌝ }
+{
+    dm_encode(plate, name, out)
 }

@@ -7,4 +7,4 @@ use Rattle.builder.specs.Build.{buildAnswer}
 use Rattle.standard.specs.Rules.{text}
 
 unfoldable pub standard : List ℕ
-standard = let b = buildAnswer text true (replicate 1411 0) in take (b .length) (b .buffer)
+standard = let b = buildAnswer text true (replicate 1765 0) in take (b .length) (b .buffer)

@@ -201,6 +201,42 @@ text = lines (
     "\"zs\" \"4\" \"4\" \"4\"" ∷
     "\"z\" \"4\" \"4\" \"4\"" ∷
     "" ∷
+    "// Differs from commons-codec: it has no Cyrillic; these rules, and the foldings of Cyrillic letters below, are ours. A" ∷
+    "// letter that one Latin letter stands for is folded to it, so that it counts as a vowel and joins the patterns above; Ж" ∷
+    "// and Ц are read as Z, Ш as S, whose codes are those of ZH, TS and SH. The others have rules, by their common" ∷
+    "// transliterations. A pattern is met in a name that is folded already: Марченко is marчenko there. Г is G or H, Х is KH" ∷
+    "// or H: at the start and before a vowel both are 5, else H is not coded." ∷
+    "\"г\" \"5\" \"5\" \"5|\"" ∷
+    "\"х\" \"5\" \"5\" \"5|\"" ∷
+    "\"ѓ\" \"5\" \"5\" \"5\"" ∷
+    "\"ќ\" \"5\" \"5\" \"5\"" ∷
+    "\"ѕ\" \"4\" \"4\" \"4\"" ∷
+    "\"џ\" \"4\" \"4\" \"4\"" ∷
+    "\"ч\" \"4\" \"4\" \"4\"" ∷
+    "\"tч\" \"4\" \"4\" \"4\"" ∷
+    "\"sч\" \"4|2\" \"4\" \"4\"" ∷
+    "\"stч\" \"2\" \"4\" \"4\"" ∷
+    "" ∷
+    "// Differs from commons-codec: it has no Cyrillic. Щ is SHCH, and SHT in Bulgarian. Ъ is a vowel in Bulgarian; in Russian" ∷
+    "// a vowel follows it. Ь has no rule: it is passed over. Є is YE, Ї is YI, Ю is YU, Я is YA; behind a, e, o or u the Y of YU" ∷
+    "// and YA is heard, as in AY before a vowel." ∷
+    "\"щ\" \"2\" \"4|43\" \"4|43\"" ∷
+    "\"ъ\" \"0\" \"\" \"\"" ∷
+    "\"ѐ\" \"0\" \"\" \"\"" ∷
+    "\"ѝ\" \"0\" \"\" \"\"" ∷
+    "\"є\" \"1|0\" \"\" \"\"" ∷
+    "\"ї\" \"1|0\" \"\" \"\"" ∷
+    "\"ю\" \"1\" \"\" \"\"" ∷
+    "\"я\" \"1\" \"\" \"\"" ∷
+    "\"aю\" \"0\" \"1\" \"1\"" ∷
+    "\"aя\" \"0\" \"1\" \"1\"" ∷
+    "\"eю\" \"0\" \"1\" \"1\"" ∷
+    "\"eя\" \"0\" \"1\" \"1\"" ∷
+    "\"oю\" \"0\" \"1\" \"1\"" ∷
+    "\"oя\" \"0\" \"1\" \"1\"" ∷
+    "\"uю\" \"0\" \"1\" \"1\"" ∷
+    "\"uя\" \"0\" \"1\" \"1\"" ∷
+    "" ∷
     "// Foldings. A letter with a mark that the chart does not know is coded as the letter without it. Names are lowered" ∷
     "// before they are folded, so only small letters stand here. ß and þ have no such letter; they go to s and b." ∷
     "ß=s" ∷
@@ -243,8 +279,8 @@ text = lines (
     "// Differs from commons-codec: ü is missing there (ý stands twice), and without a folding a name loses the letter." ∷
     "ü=u" ∷
     "" ∷
-    "// Differs from commons-codec: it folds five letters beyond U+00FF. These are the others that a name may hold (up to" ∷
-    "// U+017F), but for ą, ę and ţ, which have rules. Without a folding the r of Dvořák is lost." ∷
+    "// Differs from commons-codec: it folds five letters beyond U+00FF. These are the other Latin letters that a name may" ∷
+    "// hold (up to U+017F), but for ą, ę and ţ, which have rules. Without a folding the r of Dvořák is lost." ∷
     "ā=a" ∷
     "ă=a" ∷
     "ĉ=c" ∷
@@ -302,4 +338,39 @@ text = lines (
     "ŷ=y" ∷
     "ž=z" ∷
     "ſ=s" ∷
+    "" ∷
+    "// Differs from commons-codec: it has no Cyrillic. Serbian Ђ, Ћ, Љ and Њ are folded as their Latin forms đ, ć, lj and nj" ∷
+    "// are, the j left out." ∷
+    "а=a" ∷
+    "б=b" ∷
+    "в=v" ∷
+    "д=d" ∷
+    "е=e" ∷
+    "ж=z" ∷
+    "з=z" ∷
+    "и=i" ∷
+    "й=y" ∷
+    "к=k" ∷
+    "л=l" ∷
+    "м=m" ∷
+    "н=n" ∷
+    "о=o" ∷
+    "п=p" ∷
+    "р=r" ∷
+    "с=s" ∷
+    "т=t" ∷
+    "у=u" ∷
+    "ф=f" ∷
+    "ц=z" ∷
+    "ш=s" ∷
+    "ы=y" ∷
+    "э=e" ∷
+    "ё=e" ∷
+    "ђ=d" ∷
+    "і=i" ∷
+    "ј=j" ∷
+    "љ=l" ∷
+    "њ=n" ∷
+    "ћ=c" ∷
+    "ў=u" ∷
     [])

@@ -76,7 +76,7 @@ fn large(rules: usize, full: bool) -> Content {
     let mut number = 0;
     while content.rules.len() < rules {
         let letters = ["qv", "xq", "vw", "jx"][number % 4];
-        let mut rule = content.rules[number % 124].clone();
+        let mut rule = content.rules[number % 150].clone();
         rule.pattern = format!("{letters}{number:03}");
         content.rules.push(rule);
         number += 1;
@@ -197,7 +197,7 @@ fn main() {
     let (wide, full, wide_2, full_2) = (large(512, false), large(512, true), large(1_500, false), large(1_500, true));
     let plates = [
         from_text("11 rules", SMALL),
-        from_text("124 rules", STANDARD),
+        from_text("150 rules", STANDARD),
         rules("512 rules", &text_of(&wide), &wide),
         rules("512 rules, the longest plate", &text_of(&full), &full),
         rules("1,500 rules", &text_of(&wide_2), &wide_2),

@@ -20,11 +20,12 @@ pub fn all(runs: &mut Runs, times: usize, seed: u64) {
     damaged_plates(runs, &mut Random::new(seed + 3_000), 30_000 * times);
     foreign_patterns(runs, &mut Random::new(seed + 4_000), 1_000 * times);
     surnames(runs, &mut Random::new(seed + 5_000), 5_000 * times);
+    cyrillic(runs, &mut Random::new(seed + 6_000), 2_000 * times);
 }
 
 /// Of each section but the longest a part: what a wrong coder is held to.
 pub fn some(runs: &mut Runs) {
-    let parts: [fn(&mut Runs); 11] = [
+    let parts: [fn(&mut Runs); 12] = [
         examples,
         orders,
         |runs| pairs(runs, &mut Random::new(1), 150),
@@ -33,6 +34,7 @@ pub fn some(runs: &mut Runs) {
         |runs| damaged_texts(runs, &mut Random::new(4), 500),
         |runs| damaged_plates(runs, &mut Random::new(5), 500),
         |runs| full_plates(runs, &mut Random::new(6), 2),
+        |runs| cyrillic(runs, &mut Random::new(7), 50),
         limits,
         short_names,
         characters,
@@ -143,13 +145,16 @@ fn examples(runs: &mut Runs) {
         "q=A\nw= \nk=ж\n\"A\" \"3\" \"3\" \"3\"\n\" \" \"4\" \"4\" \"4\"\n\"r\" \"9\" \"8\" \"7\"\n",
         "\"x\" \"43\" \"43\" \"43\"\n\"y\" \"3\" \"3\" \"3\"\n\"z\" \"4|4\" \"4|4\" \"4|4\"\n",
         "\"x\" \"123456\" \"123456\" \"123456\"\n\"c\" \"4|5\" \"4|5\" \"4|5\"\n",
+        // xxx has 65 branches
+        "\"x\" \"2|3||22|13\" \"2|3||22|13\" \"2|3||22|13\"\n",
     ];
     for text in texts {
         for folding in [true, false] {
             if let Some(ready) = runs.text(text.as_bytes(), folding) {
-                for name in
-                    ["", "a", "ab", "aéb", "q", "w", "k", "x", "xy", "xyx", "z", "zz", "xcx", "\\\"", "rr a", "q r k w"]
-                {
+                for name in [
+                    "", "a", "ab", "aéb", "q", "w", "k", "x", "xy", "xyx", "xxx", "z", "zz", "xcx", "\\\"", "rr a",
+                    "q r k w",
+                ] {
                     runs.name(&ready, name.as_bytes());
                 }
             }
@@ -327,12 +332,12 @@ fn characters(runs: &mut Runs) {
     for c in (0..0x3200).chain((0x3200..=0x10FFFF).step_by(97)).filter_map(char::from_u32) {
         for name in [format!("{c}"), format!("r{c}a"), format!("m{c}n"), format!("{c}h")] {
             match c as u32 {
-                0..=0x1FF => runs.name(&ready, name.as_bytes()),
+                0..=0x1FF | 0x3F0..=0x46F => runs.name(&ready, name.as_bytes()),
                 _ => runs.name_once(&ready, name.as_bytes()),
             }
         }
     }
-    for c in (1..0x180).filter_map(char::from_u32) {
+    for c in (1..0x180).chain(0x400..0x460).filter_map(char::from_u32) {
         let text = format!("\"{c}\" \"1\" \"2\" \"3\"\n{c}=r\n\"r\" \"9\" \"9\" \"9\"\n");
         for folding in [true, false] {
             if let Some(ready) = runs.text(text.as_bytes(), folding) {
@@ -387,6 +392,30 @@ fn pairs(runs: &mut Runs, random: &mut Random, texts: usize) {
         }
     }
     runs.section("random rules and names");
+}
+
+/// Cyrillic names under ASCII patterns and foldings of Cyrillic letters to ASCII.
+fn cyrillic(runs: &mut Runs, random: &mut Random, texts: usize) {
+    for _ in 0..texts {
+        let taste = made::taste(random, false);
+        let rules = random.within(1, 14);
+        let mut text = made::text(random, &taste, rules);
+        for _ in 0..random.within(1, 60) {
+            let target = random.one_of(&taste.letters);
+            text += &format!("\n{}={target}", made::cyrillic(random));
+        }
+        let folding = !random.once_in(4);
+        if let Some(ready) = runs.text(text.as_bytes(), folding) {
+            for _ in 0..12 {
+                let mut name = String::new();
+                for _ in 0..random.within(1, 14) {
+                    name.push(if random.once_in(6) { random.one_of(&taste.letters) } else { made::cyrillic(random) });
+                }
+                runs.name(&ready, name.as_bytes());
+            }
+        }
+    }
+    runs.section("Cyrillic names");
 }
 
 /// Random names, one in twelve of them damaged.

@@ -11,7 +11,7 @@ use std::str::Utf8Error;
 use zengilvar::raw::{Built, Coded};
 
 /// Every mistake: its name, and what the coder does.
-pub const MISTAKES: [(&str, &str); 49] = [
+pub const MISTAKES: [(&str, &str); 51] = [
     ("length_rising", "sorts patterns of one letter by length rising"),
     ("text_order_reversed", "sorts patterns of one length against the text's order"),
     ("line_of_8", "tells one line more with refusal 8"),
@@ -24,6 +24,8 @@ pub const MISTAKES: [(&str, &str); 49] = [
     ("lower_17f", "lowers U+017F to s"),
     ("lower_d7", "lowers U+00D7"),
     ("lower_ascii", "lowers ASCII alone"),
+    ("lower_410", "lowers U+0410 by 80"),
+    ("refused_45f", "refuses U+045F"),
     ("11_before_2", "refuses with 11 before 2"),
     ("place_of_break", "tells the place of the byte that breaks a sequence"),
     ("place_in_characters", "counts the place in characters"),
@@ -134,8 +136,9 @@ impl Wrong {
 
     /// The place of the first character that a name may not hold.
     fn strange_at(&self, text: &str) -> Option<usize> {
-        let strange = |c: char| !allowed(c) || self.is("place_of_space") && WHITE.contains(&c);
-        text.chars().find(|c| !allowed(*c))?;
+        let refused = |c: char| !allowed(c) || self.is("refused_45f") && c == '\u{45F}';
+        let strange = |c: char| refused(c) || self.is("place_of_space") && WHITE.contains(&c);
+        text.chars().find(|c| refused(*c))?;
         if self.is("place_in_characters") {
             return text.chars().position(strange);
         }
@@ -165,6 +168,7 @@ impl Wrong {
             '\u{130}' if self.is("lower_130") => c,
             '\u{17F}' if self.is("lower_17f") => 's',
             '\u{D7}' if self.is("lower_d7") => '\u{F7}',
+            '\u{410}' if self.is("lower_410") => '\u{460}',
             _ if self.is("lower_ascii") && !c.is_ascii() => c,
             '\u{130}' => 'i',
             _ => c.to_lowercase().next().unwrap_or(c),

@@ -14,7 +14,7 @@ pub const WHITE: [char; 25] = [
 
 /// Whether a name may hold the character.
 pub fn allowed(c: char) -> bool {
-    WHITE.contains(&c) || (c as u32) < 0x180
+    WHITE.contains(&c) || c < '\u{180}' || ('\u{400}'..='\u{45F}').contains(&c)
 }
 
 /// A branch: its digits so far and its last replacement.

@@ -1,6 +1,6 @@
 //! Made inputs: rule texts, names, surnames, damaged copies, plates as long as can be.
 
-use crate::codes::WHITE;
+use crate::codes::{allowed, WHITE};
 use crate::random::Random;
 use crate::{Content, Rule};
 
@@ -161,9 +161,14 @@ fn trifle(random: &mut Random) -> String {
     trifle.to_string()
 }
 
-/// Any character that a name may hold.
+/// Any character that a name may hold, below U+0180.
 fn character(random: &mut Random) -> char {
     char::from_u32(random.below(0x180) as u32).unwrap_or('a')
+}
+
+/// A Cyrillic letter that a name may hold.
+pub fn cyrillic(random: &mut Random) -> char {
+    char::from_u32(random.within(0x400, 0x45F) as u32).unwrap_or('ж')
 }
 
 /// A name for these rules: of their letters for the most part, and of all that a name may hold. One in sixty holds a
@@ -183,14 +188,14 @@ pub fn name(random: &mut Random, content: &Content) -> String {
             2 => name.push(random.one_of(&['a', 'e', 'i', 'o', 'u', 'y'])),
             3 => name.push(random.one_of(&['m', 'n', 'M', 'N'])),
             4 if !content.foldings.is_empty() => {
-                let keys: Vec<char> = content.foldings.keys().copied().filter(|c| (*c as u32) < 0x180).collect();
+                let keys: Vec<char> = content.foldings.keys().copied().filter(|c| allowed(*c)).collect();
                 if !keys.is_empty() {
                     name.push(random.one_of(&keys));
                 }
             }
             _ if !content.rules.is_empty() => {
                 let pattern = &content.rules[random.below(content.rules.len())].pattern;
-                if pattern.chars().all(|c| (c as u32) < 0x180) {
+                if pattern.chars().all(allowed) {
                     match random.below(6) {
                         0 => name.extend(pattern.chars().take(1)),
                         1 => name.extend(pattern.chars().flat_map(char::to_uppercase)),
@@ -208,7 +213,7 @@ pub fn name(random: &mut Random, content: &Content) -> String {
     }
     if random.once_in(60) {
         let places: Vec<usize> = name.char_indices().map(|(place, _)| place).chain([name.len()]).collect();
-        let beyond = ['\u{180}', '\u{181}', '\u{21B}', 'ж', '\u{200B}', '\u{7FF}', '\u{800}', '\u{FEFF}', '\u{10FFFF}'];
+        let beyond = ['\u{180}', '\u{21B}', '\u{301}', '\u{3FF}', '\u{460}', '\u{200B}', '\u{7FF}', '\u{800}', '\u{FEFF}', '\u{10FFFF}'];
         name.insert(random.one_of(&places), random.one_of(&beyond));
     }
     name

@@ -131,7 +131,7 @@ mod tests {
     #[test]
     fn the_standard_rules_come_back() {
         let content = text::read(crate::STANDARD.as_bytes(), true).unwrap();
-        assert_eq!(content.rules.len(), 124);
+        assert_eq!(content.rules.len(), 150);
         assert_eq!(read(&write(&content)), Some(content));
     }
 }

@@ -34,7 +34,7 @@ const CAUSES: [(Cause, u64, &str); 12] = [
     (Cause::TooMany, 8, "over 1,500 rules, or over 128 folded characters"),
     (Cause::ShortBuffer, 9, "the buffer is shorter than the plate"),
     (Cause::NotAPlate, 10, "the plate is damaged or no plate"),
-    (Cause::CharacterNotAllowed, 11, "a character that is neither white space nor below U+0180"),
+    (Cause::CharacterNotAllowed, 11, "a character that is neither white space nor below U+0180 nor U+0400 to U+045F"),
     (Cause::RoomTooSmall, 12, "the buffer is too small for the codes, or the name has over 64 codes at some step"),
 ];
 

@@ -82,7 +82,7 @@ fn refused_names() {
         ("r".repeat(257).as_str(), Cause::TooLong, None),
         ("\u{180}", Cause::CharacterNotAllowed, Some(0)),
         ("ab\u{180}", Cause::CharacterNotAllowed, Some(2)),
-        ("\u{2003}\u{436}", Cause::CharacterNotAllowed, Some(3)),
+        ("\u{2003}\u{460}", Cause::CharacterNotAllowed, Some(3)),
         ("cacacacacacac", Cause::RoomTooSmall, None),
         ("cacacacacacaca", Cause::RoomTooSmall, None),
     ] {
@@ -103,7 +103,7 @@ fn refused_names() {
 #[test]
 fn refusals_in_words() {
     let words = |name: &str| coder(SMALL).encode(name).map_err(|error| error.to_string());
-    let strange = "Refused with 11: a character that is neither white space nor below U+0180, at byte 2";
+    let strange = "Refused with 11: a character that is neither white space nor below U+0180 nor U+0400 to U+045F, at byte 2";
     assert_eq!(words("ab\u{180}"), Err(strange.to_string()));
     let long = "Refused with 1: the rule text has over 65,536 bytes, or the name over 256";
     assert_eq!(words(&"r".repeat(257)), Err(long.to_string()));

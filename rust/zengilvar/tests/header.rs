@@ -31,7 +31,7 @@ const CAUSES: [(Cause, u64, &str, &str); 12] = [
         Cause::CharacterNotAllowed,
         11,
         "CHARACTER_NOT_ALLOWED",
-        "a character that is neither white space nor below U+0180",
+        "a character that is neither white space nor below U+0180 nor U+0400 to U+045F",
     ),
     (
         Cause::RoomTooSmall,

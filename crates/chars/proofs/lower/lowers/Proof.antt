@@ -1,4 +1,4 @@
--- `lower::lowers` meets its contract. The constant is the definition's lowercase of each of the 384 characters, which antt computes. Assumes nothing.
+-- `lower::lowers` meets its contract. The constant is the definition's lowercase of each of its characters, which antt computes. Assumes nothing.
 use mathlib.Core.Path.{refl}
 use Rattle.chars.specs.Letters.{lowerOf, capital, evenCapital, oddCapital}
 use Rattle.chars.specs.Table.{table}

@@ -1,0 +1,13 @@
+-- `lower::cyrillic_lowers` meets its contract. The constant is the definition's lowercase of each of its characters, which antt computes. Assumes nothing.
+use mathlib.Core.Path.{refl}
+use Rattle.chars.specs.Letters.{lowerOf, capital, evenCapital, oddCapital}
+use Rattle.chars.specs.Table.{cyrillicTable}
+use Rattle.chars.proofs.lower.cyrillic_lowers.Statement.{statement}
+use Rattle.chars.proofs.lower.cyrillic_lowers.Tie as tie
+
+returns : tie.Need-returns
+unfolding cyrillicTable lowerOf capital evenCapital oddCapital
+returns c = refl
+
+pub cyrillic-lowers-spec : {M : Type 1} → statement M
+cyrillic-lowers-spec = tie.close (tie.spec returns)
