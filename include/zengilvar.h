@@ -3,8 +3,8 @@
  * Link libzengilvar.a (`rt staticlib zengilvar` writes it to target/staticlib). It calls memcpy and memset alone, holds no memory
  * between calls and takes none from a heap; calls may run in several threads at once, each with its own buffers.
  *
- * Buffers. Every buffer is yours, before, during and after the call; nothing keeps a pointer. The buffers that are read (text, plate
- * and name) may be read-only. The buffer that is written (plate of dm_build, out of the other two) must not overlap any other buffer
+ * Buffers. Every buffer is yours, before, during and after the call; nothing keeps a pointer. The buffers that are read (text, plate,
+ * name and names) may be read-only. The buffer that is written (plate of dm_build, out of the others) must not overlap any other buffer
  * of the same call. No text needs a zero byte at its end. A pointer may be null where its length is 0, and nowhere else. Any bytes
  * and any lengths are allowed besides: what cannot be answered is refused by a number.
  *
@@ -48,7 +48,11 @@ extern "C" {
 #define DM_ENCODE_MOST 6
 #define DM_LIST_MOST 447
 
-/* Numbers that come back. dm_build gives 0 to 9; dm_encode and dm_list give 0, 1, 2, 10, 11, 12. */
+/* Limits of a ward list. */
+#define DM_WARD_NAMES 256 /* names of one call: 1 */
+#define DM_WARD_LINE 448  /* bytes to lend for each name, whatever its line takes: 12 */
+
+/* Numbers that come back. dm_build gives 0 to 9; dm_encode and dm_list give 0, 1, 2, 10, 11, 12; dm_ward gives 0, 1, 10, 12. */
 enum dm_number {
     DM_ANSWERED = 0,
     DM_TOO_LONG = 1,
@@ -69,7 +73,7 @@ enum dm_number {
 static inline const char *dm_words(uint64_t number) {
     switch (number) {
     case DM_ANSWERED: return "answered";
-    case DM_TOO_LONG: return "the rule text has over 65,536 bytes, or the name over 256";
+    case DM_TOO_LONG: return "the rule text has over 65,536 bytes, the name over 256, or the list over 256 names";
     case DM_NOT_TEXT: return "not UTF-8, or a zero byte in rule text";
     case DM_NOT_RECOGNISED: return "no rule, folding, comment or empty line";
     case DM_EMPTY_PATTERN: return "an empty pattern";
@@ -101,10 +105,15 @@ typedef struct {
     uint64_t place;
 } dm_coded;
 
+/* number: as above. length: how many bytes were written, 0 if refused. */
+typedef struct {
+    uint64_t number, length;
+} dm_written;
+
 /* Rule text to a plate, which the others read. `folding`: whether names are folded by the text's foldings. */
 dm_built dm_build(const uint8_t *text, size_t text_len, bool folding, uint8_t *plate, size_t plate_len);
 
-/* Whether these bytes are a plate: dm_encode and dm_list do not refuse them with 10. For plates that were kept or sent. */
+/* Whether these bytes are a plate: dm_encode, dm_list and dm_ward do not refuse them with 10. For plates that were kept or sent. */
 bool dm_is_plate(const uint8_t *plate, size_t plate_len);
 
 /* One code, six digits: that of the first alternative everywhere. */
@@ -115,6 +124,13 @@ dm_coded dm_encode(const uint8_t *plate, size_t plate_len, const uint8_t *name, 
  * sorts a copy. Room is measured on the branches, of which several may end in one code: a list may be refused by 12 although its codes
  * would fit. DM_LIST_MOST bytes hold every list. */
 dm_coded dm_list(const uint8_t *plate, size_t plate_len, const uint8_t *name, size_t name_len, uint8_t *out, size_t out_len);
+
+/* A whole list of names: up to DM_WARD_NAMES of them, each closed by a newline; a last one without newline counts if it is not empty.
+ * Writes a line for each, closed by a newline: the codes that dm_list gives for it in DM_LIST_MOST bytes, or `!` and its refusal in two
+ * digits. The plate is looked at once for all. Names are told apart by newlines alone: an empty line is the empty name, and a carriage
+ * return belongs to its name, where it is white space. Whole lists are refused, and nothing written, by 10, then 1 for too many names,
+ * then 12 for an `out` of less than DM_WARD_LINE bytes a name; a name is refused within its line, and the others are not touched by it. */
+dm_written dm_ward(const uint8_t *plate, size_t plate_len, const uint8_t *names, size_t names_len, uint8_t *out, size_t out_len);
 
 #ifdef __cplusplus
 }

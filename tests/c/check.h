@@ -42,6 +42,7 @@ void refusals(void);
 void places(void);
 void limits(void);
 void plates(void);
+void wards(void);
 void words(void);
 
 #endif

@@ -79,6 +79,7 @@ int main(void) {
     places();
     limits();
     plates();
+    wards();
     words();
     printf("%s: %d checks, %d failed\n", language, checks, failed);
     return failed == 0 ? 0 : 1;

@@ -4,7 +4,7 @@
 void words(void) {
     static const char *const wanted[] = {
         "answered",
-        "the rule text has over 65,536 bytes, or the name over 256",
+        "the rule text has over 65,536 bytes, the name over 256, or the list over 256 names",
         "not UTF-8, or a zero byte in rule text",
         "no rule, folding, comment or empty line",
         "an empty pattern",
@@ -27,4 +27,5 @@ void words(void) {
     expect(strcmp(version, DM_VERSION) == 0, "version", DM_VERSION);
     expect(sizeof(dm_built) == 24 && offsetof(dm_built, line) == 8 && offsetof(dm_built, length) == 16, "layout", "dm_built");
     expect(sizeof(dm_coded) == 24 && offsetof(dm_coded, count) == 8 && offsetof(dm_coded, place) == 16, "layout", "dm_coded");
+    expect(sizeof(dm_written) == 16 && offsetof(dm_written, length) == 8, "layout", "dm_written");
 }

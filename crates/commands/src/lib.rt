@@ -9,3 +9,8 @@ pub extern "C" fn dm_main() -> i32 {
 pub extern "C" fn desk_main() -> i32 {
     desk::run()
 }
+
+#[no_mangle]
+pub extern "C" fn ward_main() -> i32 {
+    ward_command::run()
+}

@@ -18,3 +18,4 @@ pub mod Orders
 pub mod OrderTexts
 pub mod Order
 pub mod Latin
+pub mod Ward

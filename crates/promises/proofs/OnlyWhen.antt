@@ -18,7 +18,7 @@ use Rattle.promises.proofs.Placed.{place-only}
 
 -- ---- two numbers
 
-check-only : {when else else′ : Type 0} (m : ℕ) {n n′ : ℕ} → (else → else′ → n ≡ n′) → Check n m when else → Check n′ m when else′ → n ≡ n′
+pub check-only : {when else else′ : Type 0} (m : ℕ) {n n′ : ℕ} → (else → else′ → n ≡ n′) → Check n m when else → Check n′ m when else′ → n ≡ n′
 check-only m f (inl a) (inl b) = a .1 ∙ sym (b .1)
 check-only m f (inl a) (inr b) = absurd (b .0 (a .0))
 check-only m f (inr a) (inl b) = absurd (a .0 (b .0))

@@ -13,3 +13,4 @@ pub mod Unused
 pub mod Order
 pub mod Latin
 pub mod Cyrillic
+pub mod Ward

@@ -13,6 +13,8 @@ use zengilvar::dm_build;
 use zengilvar::dm_encode;
 use zengilvar::dm_list;
 
+mod ward_list; // ward_list.rt: M-103, a whole ward list in one call
+
 // Demands 1 and 2, of build.
 fn builds(text: &[u8], folding: bool, plate: &mut [u8]) -> DmBuilt
     ensures { λ r. ⌜ BuildRefuses (now (text .entry)) folding (now (plate .entry)) (built r (now (plate .exit))) ⌝ }

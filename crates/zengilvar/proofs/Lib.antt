@@ -1,2 +1,3 @@
 pub mod Only
 pub mod OnlyIsPlate
+pub mod OnlyWard

@@ -1,4 +1,4 @@
-// The library that C and Rust link: build, encode and list with 01's numbers in place of enums, which C does not have. include/zengilvar.h declares it.
+// The library that C and Rust link: build, encode, list and ward with 01's numbers in place of enums, which C does not have. include/zengilvar.h declares it.
 ghost use Rattle.builder.specs.Build.{buildAnswer};
 ghost use Rattle.coder.specs.Answer.{listAnswer, encodeAnswer};
 ghost use Rattle.builder.specs.Survey.{faultNumber};
@@ -18,6 +18,7 @@ use coder::answer::encode;
 use coder::answer::list;
 
 pub mod is_plate; // is_plate.rt: whether bytes are a plate
+pub mod ward_list; // ward_list.rt: a line for each name of a list
 
 // What dm_build answers.
 #[repr(C)]
@@ -33,6 +34,13 @@ pub struct DmCoded {
     pub number: u64,
     pub count: u64,
     pub place: u64,
+}
+
+// What dm_ward answers.
+#[repr(C)]
+pub struct DmWritten {
+    pub number: u64,
+    pub length: u64,
 }
 
 // 01's number of a fault.

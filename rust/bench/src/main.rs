@@ -14,7 +14,7 @@ use judge::{made, plate, text, Content, SMALL, STANDARD};
 use oracle::Coder;
 use std::hint::black_box;
 use std::time::{Duration, Instant};
-use zengilvar::{raw, LONGEST_LIST, LONGEST_PLATE};
+use zengilvar::{raw, LINE_ROOM, LONGEST_LIST, LONGEST_PLATE};
 
 /// How many times a figure is taken; the least of them is told.
 const TURNS: usize = 20;
@@ -122,6 +122,23 @@ fn there<'a>(call: Call, coder: &'a Coder, names: &'a [String]) -> impl FnMut() 
     }
 }
 
+/// How many names a call of ward is given, as our program does.
+const WARD: usize = 128;
+
+/// The names in lists of so many, each name closed by a newline.
+fn lists(names: &[String]) -> Vec<Vec<u8>> {
+    names.chunks(WARD).map(|some| some.iter().flat_map(|name| [name.as_bytes(), b"\n"].concat()).collect()).collect()
+}
+
+fn wards<'a>(rules: &'a Rules, lists: &'a [Vec<u8>]) -> impl FnMut() + 'a {
+    let mut out = [0; WARD * LINE_ROOM];
+    move || {
+        for list in lists {
+            black_box(raw::ward(black_box(&rules.plate), black_box(list), &mut out));
+        }
+    }
+}
+
 fn row(words: &str, (here, rust): (f64, Option<f64>)) {
     match rust {
         Some(rust) => println!("| {words} | {here:.0} | {rust:.0} | {:.2} |", here / rust),
@@ -152,6 +169,7 @@ fn once(what: Option<&str>, rules: &Rules, names: &[String]) {
         (Some("list"), _) => here(Call::List, rules, names)(),
         (Some("encode"), _) => here(Call::Encode, rules, names)(),
         (Some("accept"), _) => here(Call::Encode, rules, &empty)(),
+        (Some("ward"), _) => wards(rules, &lists(names))(),
         (Some("rust-list"), Some(coder)) => there(Call::List, coder, names)(),
         (Some("rust-encode"), Some(coder)) => there(Call::Encode, coder, names)(),
         (Some(what), _) => panic!("nothing is called {what}, or the crate's source is missing"),
@@ -172,6 +190,10 @@ fn main() {
     head("a name, standard rules, 2,000 made surnames");
     both(seconds, "encode", Call::Encode, &standard, &names);
     both(seconds, "list (soundex)", Call::List, &standard, &names);
+
+    let lists = lists(&names);
+    let rust = standard.coder.as_ref().map(|coder| there(Call::List, coder, &names));
+    row("ward, 128 names a call, beside soundex", in_turns(seconds, names.len(), wards(&standard, &lists), rust));
 
     head("a name, small text S, the same surnames");
     both(seconds, "encode", Call::Encode, &small, &names);
@@ -234,6 +256,9 @@ fn main() {
         });
         stack::tell(&format!("list, 256 bytes, 64 branches, {words}"), || {
             raw::list(plate, long.as_bytes(), &mut out);
+        });
+        stack::tell(&format!("ward of one such name, {words}"), || {
+            raw::ward(plate, long.as_bytes(), &mut out);
         });
     }
 }

@@ -24,7 +24,7 @@ pub enum Cause {
 
 /// Each cause with its number and its words, which are those of the header's `dm_words`.
 const CAUSES: [(Cause, u64, &str); 12] = [
-    (Cause::TooLong, 1, "the rule text has over 65,536 bytes, or the name over 256"),
+    (Cause::TooLong, 1, "the rule text has over 65,536 bytes, the name over 256, or the list over 256 names"),
     (Cause::NotText, 2, "not UTF-8, or a zero byte in rule text"),
     (Cause::NotRecognised, 3, "no rule, folding, comment or empty line"),
     (Cause::EmptyPattern, 4, "an empty pattern"),

@@ -1,6 +1,6 @@
 //! The coder and its builder.
 
-use crate::{raw, Encoder, PhoneticError, Refusal, LONGEST_LIST, LONGEST_PLATE};
+use crate::{raw, Encoder, PhoneticError, Refusal, Ward, LONGEST_LIST, LONGEST_PLATE};
 
 /// The standard rules, as rule text.
 const STANDARD_RULES: &str = include_str!("../../../rules/daitch-mokotoff.txt");
@@ -76,6 +76,13 @@ impl DaitchMokotoffSoundex {
         let mut codes = [0; LONGEST_LIST];
         let count = answered(raw::list(&self.plate, value.as_bytes(), &mut codes))?;
         Ok(written(&codes, count))
+    }
+
+    /// A line for each of up to `MOST_NAMES` names, each closed by a newline; a last one without newline counts if it is
+    /// not empty. The plate is looked at once for all. Over so many names the whole list is refused; a name that is
+    /// refused takes its own line alone.
+    pub fn ward(&self, names: &[u8]) -> Result<Ward, PhoneticError> {
+        Ward::of(&self.plate, names)
     }
 
     /// The codes of the name one by one: all of them, or with `branching` off the first.

@@ -48,6 +48,11 @@ impl Refusal {
         Self { cause: Cause::NotAPlate, place: None }
     }
 
+    /// Of a list of names, or of a name in one: a line does not tell the place.
+    pub(crate) fn of_ward(cause: Cause) -> Self {
+        Self { cause, place: None }
+    }
+
     pub(crate) fn of_name(coded: raw::Coded) -> Self {
         let cause = Cause::of(coded.number);
         let placed = matches!(cause, Cause::NotText | Cause::CharacterNotAllowed);

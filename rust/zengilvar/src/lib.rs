@@ -23,11 +23,13 @@ mod daitch_mokotoff;
 mod encoder;
 mod error;
 pub mod raw;
+mod ward;
 
 pub use cause::Cause;
 pub use daitch_mokotoff::{DaitchMokotoffSoundex, DaitchMokotoffSoundexBuilder};
 pub use encoder::Encoder;
 pub use error::{ParseError, PhoneticError, Refusal};
+pub use ward::Ward;
 
 /// The longest rule text, in bytes.
 pub const LONGEST_TEXT: usize = 65_536;
@@ -43,3 +45,9 @@ pub const LONGEST_NAME: usize = 256;
 
 /// The longest list of codes, in bytes: 64 codes of six digits, a bar between two.
 pub const LONGEST_LIST: usize = 447;
+
+/// The most names of one `ward`.
+pub const MOST_NAMES: usize = 256;
+
+/// What `raw::ward` must be lent for each name, in bytes: the longest list and a newline.
+pub const LINE_ROOM: usize = 448;

@@ -105,7 +105,7 @@ fn refusals_in_words() {
     let words = |name: &str| coder(SMALL).encode(name).map_err(|error| error.to_string());
     let strange = "Refused with 11: a character that is neither white space nor below U+0180 nor U+0400 to U+045F, at byte 2";
     assert_eq!(words("ab\u{180}"), Err(strange.to_string()));
-    let long = "Refused with 1: the rule text has over 65,536 bytes, or the name over 256";
+    let long = "Refused with 1: the rule text has over 65,536 bytes, the name over 256, or the list over 256 names";
     assert_eq!(words(&"r".repeat(257)), Err(long.to_string()));
 }
 

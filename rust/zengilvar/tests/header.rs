@@ -1,7 +1,9 @@
 //! The wrapper says what include/zengilvar.h says: numbers, words, constants, version, layout.
 
 use std::mem::{offset_of, size_of};
-use zengilvar::{raw, Cause, LONGEST_LIST, LONGEST_NAME, LONGEST_PLATE, LONGEST_PLATE_1, LONGEST_TEXT};
+use zengilvar::{
+    raw, Cause, LINE_ROOM, LONGEST_LIST, LONGEST_NAME, LONGEST_PLATE, LONGEST_PLATE_1, LONGEST_TEXT, MOST_NAMES,
+};
 
 const HEADER: &str = include_str!("../../../include/zengilvar.h");
 
@@ -17,7 +19,7 @@ fn defined(name: &str) -> usize {
 
 /// Every cause, its number, the header's name of it, and its words.
 const CAUSES: [(Cause, u64, &str, &str); 12] = [
-    (Cause::TooLong, 1, "TOO_LONG", "the rule text has over 65,536 bytes, or the name over 256"),
+    (Cause::TooLong, 1, "TOO_LONG", "the rule text has over 65,536 bytes, the name over 256, or the list over 256 names"),
     (Cause::NotText, 2, "NOT_TEXT", "not UTF-8, or a zero byte in rule text"),
     (Cause::NotRecognised, 3, "NOT_RECOGNISED", "no rule, folding, comment or empty line"),
     (Cause::EmptyPattern, 4, "EMPTY_PATTERN", "an empty pattern"),
@@ -60,6 +62,8 @@ fn constants() {
     assert_eq!(LONGEST_PLATE_1, defined("DM_PLATE_MOST_1"));
     assert_eq!(LONGEST_NAME, defined("DM_NAME_MOST"));
     assert_eq!(LONGEST_LIST, defined("DM_LIST_MOST"));
+    assert_eq!(MOST_NAMES, defined("DM_WARD_NAMES"));
+    assert_eq!(LINE_ROOM, defined("DM_WARD_LINE"));
     assert_eq!(env!("CARGO_PKG_VERSION"), behind("#define DM_VERSION \"", &['"']));
 }
 
@@ -67,6 +71,7 @@ fn constants() {
 #[test]
 fn layout() {
     assert_eq!((size_of::<raw::Built>(), size_of::<raw::Coded>()), (24, 24));
+    assert_eq!((size_of::<raw::Written>(), offset_of!(raw::Written, length)), (16, 8));
     assert_eq!((offset_of!(raw::Built, line), offset_of!(raw::Built, length)), (8, 16));
     assert_eq!((offset_of!(raw::Coded, count), offset_of!(raw::Coded, place)), (8, 16));
 }

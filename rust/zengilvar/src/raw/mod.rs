@@ -7,7 +7,9 @@
 mod build;
 mod code;
 mod is_plate;
+mod ward;
 
 pub use build::{build, Built};
 pub use code::{encode, list, Coded};
 pub use is_plate::is_plate;
+pub use ward::{ward, Written};

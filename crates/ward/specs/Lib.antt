@@ -1,0 +1,3 @@
+pub mod Ward
+pub mod Puts
+pub mod Outcome
