@@ -5,15 +5,16 @@ use mathlib.Core.Path.{_≡_, refl, sym, _∙_, ap, ap₂}
 use mathlib.Core.Bool.{Bool, true, false, cond, _&&_, _||_, false≢true}
 use mathlib.Core.List.{List, [], _∷_, _++_, map}
 use native.Mathlib.Omega.{arith}
+use native.Mathlib.Numerals.{add-one}
 use borrow.Author.Tests.{lt-ltb, le-ltb, ltb-true, ltb-false, leb-true, leb-false, eqb-true, eqb-false}
 use lib.Dec.{ltb, leb, eqb}
-use lib.ListN.{length, take, drop, getD, length-append, length-drop}
-use lib.Seq.{length-take-le, take-append-seam}
+use lib.ListN.{length, take, drop, getD, set, length-append, length-drop, length-set}
+use lib.Seq.{take-append-seam, take-suc, take-set-le, getD-set-same}
 use Rattle.plate.specs.Plate.{Folding, Rule, firstCode, mostBytes, mayPrecede}
 use Rattle.book.specs.Book.{foldingOf, putRule, putFolding}
 use Rattle.book.specs.Sort.{insert, paired, putPair, foldingIn, Small, AllSmall}
-use Rattle.book.specs.Seen.{hashes, hashOf, mayHold}
-use Rattle.book.specs.Note.{places, lengths, key, placeIn, hashIn, keyOf, rulesIn, Sure, AllSure, AllMarked}
+use Rattle.book.specs.Seen.{hashes, hashOf}
+use Rattle.book.specs.Note.{places, lengths, key, placeIn, hashIn, keyOf, rulesIn, Sure, AllSure}
 use Rattle.book.proofs.Faults.{clean}
 use Rattle.book.proofs.Hashes.{hash-small}
 
@@ -50,14 +51,6 @@ module _ (view : ℕ → Rule) where
   all-later at at2 [] h s = tt
   all-later at at2 (k ∷ l) h s = (later at at2 k h (s .0), all-later at at2 l h (s .1))
 
-  pub all-insert : (at k : ℕ) (l : List ℕ) → Sure view at k → AllSure view at l → AllSure view at (insert k l)
-  all-insert at k [] s a = (s, tt)
-  all-insert at k (x ∷ xs) s a = go (ltb x k) (all-insert at k xs s (a .1))
-    where
-      go : (t : Bool) → AllSure view at (insert k xs) → AllSure view at (cond t (x ∷ insert k xs) (k ∷ x ∷ xs))
-      go true i = (a .0, i)
-      go false i = (s, a)
-
   pub sure-at : (at : ℕ) (l : List ℕ) (i : ℕ) → i < length l → AllSure view at l → Sure view at (getD l i 0)
   sure-at at [] i h a = absurd (omega arith)
   sure-at at (k ∷ l) zero h a = a .0
@@ -92,32 +85,12 @@ module _ (view : ℕ → Rule) where
       go false true e i = absurd (false≢true e)
       go false false e i = refl
 
-pub marked-insert : (seen : List ℕ) (k : ℕ) (l : List ℕ) → mayHold seen (hashIn k) ≡ true → AllMarked seen l → AllMarked seen (insert k l)
-marked-insert seen k [] m a = (m, tt)
-marked-insert seen k (x ∷ xs) m a = go (ltb x k) (marked-insert seen k xs m (a .1))
-  where
-    go : (t : Bool) → AllMarked seen (insert k xs) → AllMarked seen (cond t (x ∷ insert k xs) (k ∷ x ∷ xs))
-    go true i = (a .0, i)
-    go false i = (m, a)
-
-length-insert : (k : ℕ) (l : List ℕ) → length (insert k l) ≡ suc (length l)
-length-insert k [] = refl
-length-insert k (x ∷ xs) = go (ltb x k) (length-insert k xs)
-  where
-    go : (t : Bool) → length (insert k xs) ≡ suc (length xs) → length (cond t (x ∷ insert k xs) (k ∷ x ∷ xs)) ≡ suc (suc (length xs))
-    go true e = ap suc e
-    go false e = refl
-
--- The first of an array after an insertion, and its length.
-module _ (a b : List ℕ) (n k : ℕ) (h : n < length a) (e : b ≡ insert k (take n a) ++ drop (n + 1) a) where
-  one-longer : length (insert k (take n a)) ≡ n + 1
-  one-longer = length-insert k (take n a) ∙ omega (arith, length-take-le n a (omega arith))
-
-  pub first-keys : take (n + 1) b ≡ insert k (take n a)
-  first-keys = ap₂ take (sym one-longer) e ∙ take-append-seam (insert k (take n a)) (drop (n + 1) a)
-
-  pub keys-length : length b ≡ length a
-  keys-length = ap length e ∙ length-append (insert k (take n a)) (drop (n + 1) a) ∙ omega (arith, one-longer, length-drop (n + 1) a)
+-- The first of an array with one stored behind them.
+pub first-keys : (a : List ℕ) (n k : ℕ) → n < length a → take (n + 1) (set a n k) ≡ take n a ++ (k ∷ [])
+first-keys a n k h =
+    ap (λ (m : ℕ). take m (set a n k)) (add-one n)
+    ∙ take-suc (set a n k) n 0 (omega (arith, length-set a n k))
+    ∙ ap₂ (λ (l : List ℕ) (x : ℕ). l ++ (x ∷ [])) (take-set-le n a n k (omega arith)) (getD-set-same a n k 0 h)
 
 -- ---- foldings
 

@@ -4,6 +4,8 @@ pub mod Fields
 pub mod Runs
 pub mod Inks
 pub mod Sorted
+pub mod Counts
+pub mod Splits
 pub mod Orders
 pub mod Hashes
 pub mod Keys

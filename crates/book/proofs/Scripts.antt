@@ -15,7 +15,7 @@ use Rattle.plate.specs.declared.edition.Head.{Head}
 use Rattle.plate.proofs.Round.{head-length}
 use Rattle.book.specs.Pen.{begin, bitsIn, Ready, Wrote, Stored, Finished}
 use Rattle.book.specs.Sort.{foldingIn}
-use Rattle.book.specs.Note.{placeIn, rulesIn, bookOf, Kept}
+use Rattle.book.specs.Note.{placeIn, rulesIn, bookOf, Kept, InOrder}
 use Rattle.book.specs.Writing.{runBits, headWith, bytesOf}
 use Rattle.book.specs.declared.pen.Pen.{Pen}
 use Rattle.book.specs.declared.Tally.{Tally}
@@ -133,7 +133,8 @@ module _ (number width rules foldings : ℕ) (flag : Bool) {out : List ℕ} {pen
 
 -- ---- the plate
 
-module _ (view : ℕ → Rule) {at : ℕ} (tally : Tally) (keys foldings : List ℕ) (flag : Bool) (k : Kept view at tally keys foldings) where
+module _ (view : ℕ → Rule) {at : ℕ} (tally : Tally) (keys foldings : List ℕ) (flag : Bool) (k : Kept view at tally keys foldings)
+    (o : InOrder tally keys) where
   abbrev H : List ℕ
   H = headOf (tally .rules) (tally .foldings) flag
 
@@ -144,10 +145,16 @@ module _ (view : ℕ → Rule) {at : ℕ} (tally : Tally) (keys foldings : List 
   R = cat ruleBits (rulesIn view (take (tally .rules) keys))
 
   rules-length : length (rulesIn view (take (tally .rules) keys)) ≡ tally .rules
-  rules-length = let few = k .rules .few in let n = k .rules .fewRead in let m = k .rules .room in length-map (take (tally .rules) keys) (λ i. view (placeIn i)) ∙ length-take-le (tally .rules) keys (omega arith)
+  rules-length =
+      let few = k .rules .few in
+      let n = k .rules .fewRead in
+      let m = k .rules .room in
+      length-map (take (tally .rules) keys) (λ i. view (placeIn i)) ∙ length-take-le (tally .rules) keys (omega arith)
 
   foldings-length : length (map foldingIn (take (tally .foldings) foldings)) ≡ tally .foldings
-  foldings-length = let n = k .pairs .few in let m = k .pairs .room in length-map (take (tally .foldings) foldings) foldingIn ∙ length-take-le (tally .foldings) foldings (omega arith)
+  foldings-length =
+      let n = k .pairs .few in
+      let m = k .pairs .room in length-map (take (tally .foldings) foldings) foldingIn ∙ length-take-le (tally .foldings) foldings (omega arith)
 
   bits-length : length (H ++ (F ++ R)) ≡ 32 + 42 * tally .foldings + tally .bits
   bits-length =
@@ -156,14 +163,16 @@ module _ (view : ℕ → Rule) {at : ℕ} (tally : Tally) (keys foldings : List 
         arith,
         head-length (tally .rules) (tally .foldings) flag,
         length-append F R,
-        k .bits,
+        k .bits ∙ ap (λ (l : List ℕ). length (cat ruleBits (rulesIn view l))) o,
         cat-length foldingBits 42 folding-length (map foldingIn (take
             (tally .foldings) foldings)),
         foldings-length,
       )
 
   plate-is : pack (H ++ (F ++ R)) ≡ bytesOf flag (bookOf view tally keys foldings)
-  plate-is = ap₂ (λ (m n : ℕ). pack (headOf m n flag ++ (F ++ R))) (sym rules-length) (sym foldings-length)
+  plate-is =
+      ap₂ (λ (m n : ℕ). pack (headOf m n flag ++ (F ++ R))) (sym rules-length) (sym foldings-length)
+      ∙ ap (λ (l : List ℕ). bytesOf flag (record { foldings = map foldingIn (take (tally .foldings) foldings); rules = rulesIn view l; read = tally .read })) (sym o)
 
   -- The plate's length in bytes, as the first pass has added it up.
   pub plate-length : length (bytesOf flag (bookOf view tally keys foldings)) ≡ (32 + 42 * tally .foldings + tally .bits + 7) / 8

@@ -3,15 +3,16 @@
 use Prim.Native.Nat.{ℕ, _+_, _-_, _*_, _/_, _%_, _<_, _≤_}
 use mathlib.Core.Path.{_≡_}
 use mathlib.Core.Bool.{true}
-use mathlib.Core.List.{List, [], _∷_, _++_, map}
-use lib.ListN.{length, take, drop}
+use mathlib.Core.List.{List, _++_, map}
+use lib.ListN.{length, take, drop, set}
 use Rattle.laws.specs.Lists.{cat}
+use Rattle.laws.specs.Arrays.{Each}
 use Rattle.plate.specs.Plate.{Rule, firstCode, mostBytes, mostFoldings}
 use Rattle.plate.specs.Most.{fieldMost, ruleMost, mostRules}
 use Rattle.plate.specs.Written.{fieldBits, ruleBits}
 use Rattle.book.specs.Book.{Book, fieldFault, ruleFault}
-use Rattle.book.specs.Seen.{hashes, hashOf, mayHold, marked}
-use Rattle.book.specs.Sort.{Rising, insert, putPair, foldingIn, PairsHeld}
+use Rattle.book.specs.Seen.{hashes, slots, hashOf, mayHold, marked}
+use Rattle.book.specs.Sort.{sorted, putPair, foldingIn, PairsHeld}
 use Rattle.book.specs.declared.Flaw.{Flaw}
 use Rattle.book.specs.declared.Flaw.the-variants.{EmptyPattern, LongPattern, ManyAlternatives, NotDigits, TooMany}
 use Rattle.book.specs.declared.Tally.{Tally}
@@ -53,26 +54,27 @@ pub record Sure (view : ℕ → Rule) (at k : ℕ) : Type 0 where
   pub fine : ruleFault (view (placeIn k)) 0 ≡ 0
 
 abbrev pub AllSure : (ℕ → Rule) → ℕ → List ℕ → Type 0
-AllSure view at [] = Unit {0}
-AllSure view at (k ∷ ks) = Sure view at k × AllSure view at ks
+AllSure view at = Each (Sure view at)
 
 -- the hash of each is met
 abbrev pub AllMarked : List ℕ → List ℕ → Type 0
-AllMarked seen [] = Unit {0}
-AllMarked seen (k ∷ ks) = (mayHold seen (hashIn k) ≡ true) × AllMarked seen ks
+AllMarked seen = Each (λ k. mayHold seen (hashIn k) ≡ true)
 
 -- ---- the book that is noted
 
+-- the rules of the numbers noted, in whatever order these stand
+abbrev pub rulesOf : (ℕ → Rule) → Tally → List ℕ → List Rule
+rulesOf view tally keys = rulesIn view (sorted (take (tally .rules) keys))
+
 abbrev pub bookOf : (ℕ → Rule) → Tally → List ℕ → List ℕ → Book
 bookOf view tally keys foldings =
-    record { foldings = map foldingIn (take (tally .foldings) foldings); rules = rulesIn view (take (tally .rules) keys); read = tally .read }
+    record { foldings = map foldingIn (take (tally .foldings) foldings); rules = rulesOf view tally keys; read = tally .read }
 
--- the numbers of the rules stand in order, no more than were read, and no more bits are counted than so many rules can take
+-- no more numbers of rules than were read, and no more bits are counted than so many rules can take
 pub record KeysHeld (tally : Tally) (keys : List ℕ) : Type 0 where
   pub few : tally .rules ≤ tally .read
   pub fewRead : tally .read ≤ mostRules
   pub room : length keys ≡ mostRules
-  pub sorted : Rising (take (tally .rules) keys)
   pub fewBits : tally .bits ≤ ruleMost * tally .rules
 
 -- what is noted of the rules before a place, and of foldings
@@ -80,7 +82,11 @@ pub record Kept (view : ℕ → Rule) (at : ℕ) (tally : Tally) (keys foldings 
   pub rules : KeysHeld tally keys
   pub pairs : PairsHeld (tally .foldings) foldings
   pub sure : AllSure view at (take (tally .rules) keys)
-  pub bits : tally .bits ≡ length (cat ruleBits (rulesIn view (take (tally .rules) keys)))
+  pub bits : tally .bits ≡ length (cat ruleBits (rulesOf view tally keys))
+
+-- the numbers of the rules noted stand in order
+abbrev pub InOrder : Tally → List ℕ → Type 0
+InOrder tally keys = sorted (take (tally .rules) keys) ≡ take (tally .rules) keys
 
 -- nothing is noted yet
 abbrev pub noneNoted : Tally
@@ -116,11 +122,18 @@ passed tally = record { read = tally .read + 1; rules = tally .rules; foldings =
 abbrev pub folded : Tally → ℕ → Tally
 folded tally n = record { read = tally .read; rules = tally .rules; foldings = n; bits = tally .bits }
 
--- a rule goes in among the others
+-- a rule at a place, with its pattern's hash, can be noted behind the others
+pub record Notable (tally : Tally) (keys seen pattern : List ℕ) (at hash : ℕ) : Type 0 where
+  pub held : KeysHeld tally keys
+  pub slotted : length seen ≡ slots
+  pub low : at < places
+  pub hashed : hash ≡ hashOf pattern
+
+-- a rule's number is stored behind the others
 pub record RuleIn (r : Rule) (at : ℕ) (tally : Tally) (keys seen keys′ seen′ : List ℕ) (t : Tally) : Type 0 where
   pub fine : ruleFault r (tally .read) ≡ 0
   pub few : length (ruleBits r) ≤ ruleMost
-  pub keyed : keys′ ≡ insert (keyOf r at) (take (tally .rules) keys) ++ drop (tally .rules + 1) keys
+  pub keyed : keys′ ≡ set keys (tally .rules) (keyOf r at)
   pub met : seen′ ≡ marked seen (hashOf (r .pattern))
   pub told : t ≡ ruled tally (length (ruleBits r))
 

@@ -1,6 +1,6 @@
 // The book: rules and foldings noted in the plate's order, and their plate written. It takes spans of any text and knows no form of text: a driver finds the
 // spans, says which byte splits a field, and gives each rule a place by which it finds it again.
-mod sort; // sort.rt: rules and foldings in the plate's order
+pub mod sort; // sort.rt: rules and foldings in the plate's order
 pub mod field; // field.rt: the alternatives of a field
 pub mod note; // note.rt: a rule or a folding noted, or what is wrong with it
 pub mod seen; // seen.rt: which patterns may be among those noted
@@ -12,6 +12,9 @@ pub const PLACES: u64 = 65536;
 
 // A pattern's hash, in 22 bits, is below this.
 pub const HASHES: u64 = 4194304;
+
+// A rule's number has so many bits.
+const KEY_BITS: usize = 64;
 
 // How many slots tell which hashes were met.
 pub const SLOTS: usize = 4096;

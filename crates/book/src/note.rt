@@ -1,4 +1,4 @@
-// A rule or a folding noted among those noted before it, in the plate's order, and the bits of the rules added up, so that nothing can refuse any more when the
+// A rule noted behind those noted before it, a folding among them in the plate's order, and the bits of the rules added up, so that nothing can refuse any more when the
 // plate is written; or what is wrong with it, and nothing changes.
 ghost use mathlib.Core.Path.{_≡_};
 ghost use Prim.Native.Nat.{_≤_, _<_};
@@ -7,9 +7,9 @@ ghost use Rattle.laws.specs.Lists.{splitAt};
 ghost use Rattle.chars.specs.Utf8.{charOf, codeOf};
 ghost use Rattle.plate.specs.Plate.{mostBytes};
 ghost use Rattle.book.specs.Book.{ruleOf};
-ghost use Rattle.book.specs.Seen.{hashes, slots, hashOf};
+ghost use Rattle.book.specs.Seen.{hashes};
 ghost use Rattle.book.specs.Sort.{PairsHeld};
-ghost use Rattle.book.specs.Note.{places, key, FieldIs, RuleIs, KeysHeld, DoubleNoted, RuleNoted, FoldingNoted};
+ghost use Rattle.book.specs.Note.{places, key, FieldIs, RuleIs, Notable, DoubleNoted, RuleNoted, FoldingNoted};
 use super::Alternatives;
 use super::Flaw;
 use super::HASHES;
@@ -21,7 +21,6 @@ use super::Tally;
 use super::field::parse_branch;
 use super::seen::mark;
 use super::sort::Put;
-use super::sort::insert_key;
 use super::sort::put_folding;
 use chars::Char;
 use chars::utf8::char_at;
@@ -144,13 +143,17 @@ pub fn note_rule(
     sep: u8,
     hash: u64,
 ) -> Noted
-    requires { ⌜ KeysHeld tally (now keys) × (length (now seen) ≡ slots) × (at < places) × (hash ≡ hashOf (now pattern)) ⌝ }
-    ensures { λ r. ⌜ RuleNoted (ruleOf sep (now (pattern .entry)) (now (start .entry)) (now (vowel .entry)) (now (other .entry))) at tally (now (keys .entry)) (now (seen .entry)) (now (keys .exit)) (now (seen .exit)) r ⌝ }
+    requires { ⌜ Notable tally (now keys) (now seen) (now pattern) at hash ⌝ }
+    ensures {
+        λ r. ⌜ RuleNoted (ruleOf sep (now (pattern .entry)) (now (start .entry)) (now (vowel .entry)) (now (other .entry))) at tally
+            (now (keys .entry)) (now (seen .entry)) (now (keys .exit)) (now (seen .exit)) r ⌝
+    }
 {
     match measure_rule(pattern, start, vowel, other, sep, tally.read) {
         Judged::Wrong(flaw) => Noted::Refused(flaw),
         Judged::Fine(bits) => {
-            insert_key(keys, tally.rules, key_of(pattern, at, hash));
+            let n = tally.rules;
+            keys[n] = key_of(pattern, at, hash);
             mark(seen, hash);
             Noted::Fine(Tally {
                 read: tally.read + 1,

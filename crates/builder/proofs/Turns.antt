@@ -3,7 +3,7 @@
 use Prim.Native.Nat.{ℕ, zero, suc, _+_, _<_, _≤_}
 use mathlib.Core.Path.{_≡_, refl, sym, _∙_, ap, subst}
 use mathlib.Core.Bool.{Bool, true, false}
-use mathlib.Core.List.{List, [], _∷_}
+use mathlib.Core.List.{List, [], _∷_, _++_}
 use native.Mathlib.Omega.{arith}
 use lib.ListN.{length, take, drop}
 use Rattle.laws.specs.Lists.{some}
@@ -21,19 +21,23 @@ use Rattle.plate.specs.Plate.{Rule, mostFoldings, ofPattern}
 use Rattle.plate.specs.Most.{mostRules}
 use Rattle.book.specs.Book.{Book, foldingOf}
 use Rattle.book.specs.Seen.{slots}
-use Rattle.book.specs.Note.{places, bookOf, Kept, noneNoted, FoldingNoted}
+use Rattle.book.specs.Sort.{sorted}
+use Rattle.book.specs.Note.{places, placeIn, rulesIn, bookOf, Kept, noneNoted, FoldingNoted}
 use Rattle.book.specs.declared.Tally.{Tally}
 use Rattle.book.specs.declared.Noted.{Noted}
 use Rattle.book.specs.declared.Noted.the-variants as Noted
 use Rattle.book.proofs.Ways as Ways
+use Rattle.book.proofs.Counts.{some-sorted}
 use Rattle.book.proofs.Noting.{none-kept, kept-later, double-kept, double-noted, rule-kept, rule-noted, rule-met, folding-fault, folding-fine, folding-kept, folding-noted}
+use Rattle.book.proofs.Noting.{order-kept, order-made, order-noted}
 use Rattle.builder.specs.Build.{longestText, fault, enter, Verdict, unless, verdict}
 use Rattle.builder.specs.Build.Verdict.{Faulty, Fine}
-use Rattle.builder.specs.Survey.{faultNumber, ruleIn, ruleSaid, view, Met, SoFar, Held, onward, turnOf, NotedAs, FourNoted, TurnIs}
+use Rattle.builder.specs.Survey.{faultNumber, ruleIn, ruleSaid, view, Met, SoFar, Held, onward, turnOf, NotedAs, FourNoted, TurnIs, SurveyIs}
 use Rattle.builder.specs.declared.Fault.{Fault}
 use Rattle.builder.specs.declared.Fault.the-variants.{NotRecognised, Flawed}
 use Rattle.builder.specs.declared.survey.Turn.{Turn}
 use Rattle.builder.specs.declared.survey.Turn.the-variants.{On, Stop}
+use Rattle.builder.specs.declared.survey.Surveyed.the-variants as Surveyed
 
 -- ---- the verdict, one item at a time
 
@@ -69,9 +73,19 @@ module _ (text : List ℕ) (at : ℕ) (tally : Tally) (keys seen foldings : List
   pub held : Held text at tally keys seen
   held = record { within = k .within; rules = k .noted .rules; sure = k .noted .sure; met = k .met }
 
-  pub survey-end : length text ≤ at → Kept (view text) (length text) tally keys foldings × (onward text at tally keys foldings ≡ Fine (bookOf (view text) tally keys foldings))
-  unfolding verdict
-  survey-end h = (kept-later (view text) at tally keys foldings (k .noted) (length text) (k .within), ap (verdict (bookOf (view text) tally keys foldings)) (Walk.done text at h))
+  -- All items are noted, and the numbers of the rules put in order.
+  module _ (h : length text ≤ at) (keys′ : List ℕ) (e : keys′ ≡ sorted (take (tally .rules) keys) ++ drop (tally .rules) keys) where
+    all-noted : Kept (view text) (length text) tally keys foldings
+    all-noted = kept-later (view text) at tally keys foldings (k .noted) (length text) (k .within)
+
+    pub survey-end : SurveyIs text keys′ foldings (onward text at tally keys foldings) (Surveyed.Fine tally)
+    unfolding verdict
+    survey-end = (
+      order-kept (view text) (length text) tally keys foldings all-noted keys′ e,
+      order-made (view text) (length text) tally keys foldings all-noted keys′ e,
+      ap (verdict (bookOf (view text) tally keys foldings)) (Walk.done text at h)
+          ∙ ap Fine (sym (order-noted (view text) (length text) tally keys foldings all-noted keys′ e)),
+    )
 
   -- ---- the item at the place
 
@@ -165,7 +179,10 @@ module _ (text : List ℕ) (at : ℕ) (tally : Tally) (keys seen foldings : List
 
       -- one of those noted has its pattern
       abbrev double : Bool
-      double = some (ofPattern (R .pattern)) (book .rules)
+      double = some (ofPattern (R .pattern)) (rulesIn (view text) (take (tally .rules) keys))
+
+      in-book : some (ofPattern (R .pattern)) (book .rules) ≡ double
+      in-book = some-sorted (λ i. view text (placeIn i)) (ofPattern (R .pattern)) (take (tally .rules) keys)
 
       entered : (b : Bool) → double ≡ b → (keys′ seen′ : List ℕ) (n : Noted) → NotedAs b R at tally keys seen keys′ seen′ n
           → TurnIs text at tally keys foldings keys′ seen′ foldings (turnOf n (at + four .next))
@@ -177,13 +194,13 @@ module _ (text : List ℕ) (at : ℕ) (tally : Tally) (keys seen foldings : List
           (on (E.Rule four) says is tt t keys seen foldings
           (kept-later (view text) at t keys foldings (double-kept (view text) at tally keys foldings (k .noted) R t (p .0)) (at + 1) (omega arith))
           (subst (λ (t : Tally). Met t keys seen) (sym (p .0 .1)) (k .met))
-          (double-noted (view text) at tally keys foldings (k .noted) R t (p .0) e)
+          (double-noted (view text) at tally keys foldings (k .noted) R t (p .0) (in-book ∙ e))
           (p .0 .0)))
       entered false e keys′ seen′ (Noted.Fine t) p =
           on (E.Rule four) says is tt t keys′ seen′ foldings
           (rule-kept (view text) at tally keys foldings (k .noted) R viewed low seen keys′ seen′ t p)
           (rule-met (view text) at tally keys foldings (k .noted) R viewed low seen keys′ seen′ t p (k .met .0) (k .met .1))
-          (rule-noted (view text) at tally keys foldings (k .noted) R viewed low seen keys′ seen′ t p e)
+          (rule-noted (view text) at tally keys foldings (k .noted) R viewed low seen keys′ seen′ t p (in-book ∙ e))
           (p .fine)
 
       -- As the rest is lent.

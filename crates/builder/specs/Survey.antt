@@ -12,8 +12,8 @@ use Rattle.rule_text.specs.Fields.{bar}
 use Rattle.rule_text.specs.declared.Four.{Four}
 use Rattle.plate.specs.Plate.{Rule, ofPattern}
 use Rattle.book.specs.Book.{ruleOf}
-use Rattle.book.specs.Seen.{slots}
-use Rattle.book.specs.Note.{rulesIn, AllSure, AllMarked, bookOf, KeysHeld, Kept, flawNumber, RuleNoted, DoubleNoted}
+use Rattle.book.specs.Seen.{slots, hashOf}
+use Rattle.book.specs.Note.{rulesIn, AllSure, AllMarked, bookOf, KeysHeld, Kept, InOrder, flawNumber, RuleNoted, DoubleNoted}
 use Rattle.book.specs.declared.Tally.{Tally}
 use Rattle.book.specs.declared.Noted.{Noted}
 use Rattle.book.specs.declared.Noted.the-variants as Noted
@@ -78,6 +78,14 @@ abbrev pub turnOf : Noted → ℕ → Turn
 turnOf (Noted.Fine tally) next = On next tally
 turnOf (Noted.Refused flaw) next = Stop (Flawed flaw)
 
+-- n keys stand for rules, and the hashes of these are met; a pattern's hash is told
+pub record Known (text keys seen pattern : List ℕ) (n hash : ℕ) : Type 0 where
+  pub few : n ≤ length keys
+  pub sure : AllSure (view text) (length text) (take n keys)
+  pub slotted : length seen ≡ slots
+  pub met : AllMarked seen (take n keys)
+  pub hashed : hash ≡ hashOf pattern
+
 -- a rule, where its pattern is known and where it is new
 abbrev pub NotedAs : Bool → Rule → ℕ → Tally → List ℕ → List ℕ → List ℕ → List ℕ → Noted → Type 0
 NotedAs true r at tally keys seen keys′ seen′ n = DoubleNoted r tally n × (keys′ ≡ keys) × (seen′ ≡ seen)
@@ -94,5 +102,6 @@ TurnIs text at tally keys foldings keys′ seen′ foldings′ (On next t) =
 TurnIs text at tally keys foldings keys′ seen′ foldings′ (Stop fault) = onward text at tally keys foldings ≡ Faulty (faultNumber fault) at
 
 abbrev pub SurveyIs : List ℕ → List ℕ → List ℕ → Verdict → Surveyed → Type 0
-SurveyIs text keys foldings v (Surveyed.Fine t) = Kept (view text) (length text) t keys foldings × (v ≡ Fine (bookOf (view text) t keys foldings))
+SurveyIs text keys foldings v (Surveyed.Fine t) =
+    Kept (view text) (length text) t keys foldings × InOrder t keys × (v ≡ Fine (bookOf (view text) t keys foldings))
 SurveyIs text keys foldings v (Surveyed.Faulty fault at) = v ≡ Faulty (faultNumber fault) at

@@ -5,9 +5,9 @@ ghost use Prim.Native.Nat.{_≤_};
 ghost use lib.ListN.{length, take};
 ghost use Rattle.laws.specs.Lists.{same, some};
 ghost use Rattle.plate.specs.Plate.{ofPattern};
-ghost use Rattle.book.specs.Seen.{slots, hashOf};
-ghost use Rattle.book.specs.Note.{placeIn, rulesIn, Sure, AllSure, AllMarked};
-ghost use Rattle.builder.specs.Survey.{view};
+ghost use Rattle.book.specs.Seen.{hashOf};
+ghost use Rattle.book.specs.Note.{placeIn, rulesIn, Sure, AllSure};
+ghost use Rattle.builder.specs.Survey.{view, Known};
 use book::HASHES;
 use book::PLACES;
 use book::seen::may_hold;
@@ -70,7 +70,7 @@ pub(crate) fn is_known(
     pattern: &[u8],
     hash: u64,
 ) -> bool
-    requires { ⌜ (n ≤ length (now keys)) × AllSure (view (now text)) (length (now text)) (take n (now keys)) × (length (now seen) ≡ slots) × AllMarked (now seen) (take n (now keys)) × (hash ≡ hashOf (now pattern)) ⌝ }
+    requires { ⌜ Known (now text) (now keys) (now seen) (now pattern) n hash ⌝ }
     ensures { λ r. ⌜ r ≡ some (ofPattern (now (pattern .entry))) (rulesIn (view (now (text .entry))) (take n (now (keys .entry)))) ⌝ }
 {
     if may_hold(seen, hash) {

@@ -20,6 +20,7 @@ use book::note::note_double;
 use book::note::note_folding;
 use book::note::note_rule;
 use book::seen::hash_of;
+use book::sort::sort_keys;
 use rule_text::Entry;
 use rule_text::Four;
 use rule_text::item::item;
@@ -108,7 +109,7 @@ fn enter(
     }
 }
 
-// All items of a text.
+// All items of a text; then the numbers of its rules are put in order.
 pub(crate) fn survey(
     text: &[u8],
     keys: &mut [u64],
@@ -136,5 +137,6 @@ pub(crate) fn survey(
             }
         }
     }
+    sort_keys(keys, tally.rules);
     Surveyed::Fine(tally)
 }

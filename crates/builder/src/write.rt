@@ -7,7 +7,7 @@ ghost use Rattle.rule_text.specs.Answers.{FourIn};
 ghost use Rattle.plate.specs.Written.{ruleBits};
 ghost use Rattle.book.specs.Book.{ruleFault};
 ghost use Rattle.book.specs.Pen.{Ready, Wrote, Stored};
-ghost use Rattle.book.specs.Note.{placeIn, rulesIn, Sure, AllSure, Kept, bookOf};
+ghost use Rattle.book.specs.Note.{placeIn, rulesIn, Sure, AllSure, Kept, InOrder, bookOf};
 ghost use Rattle.book.specs.Writing.{bytesOf};
 ghost use Rattle.builder.specs.Survey.{ruleIn, view};
 use super::BAR;
@@ -73,7 +73,7 @@ pub(crate) fn write_plate(
     tally: Tally,
     flag: bool,
 ) -> usize
-    requires { ⌜ Kept (view (now text)) (length (now text)) tally (now keys) (now foldings) × (32 + 42 * tally .foldings + tally .bits ≤ 8 * length (now out)) ⌝ }
+    requires { ⌜ Kept (view (now text)) (length (now text)) tally (now keys) (now foldings) × InOrder tally (now keys) × (32 + 42 * tally .foldings + tally .bits ≤ 8 * length (now out)) ⌝ }
     ensures { λ r. ⌜ Stored (now (out .entry)) (bytesOf flag (bookOf (view (now (text .entry))) tally (now (keys .entry)) (now (foldings .entry)))) (now (out .exit)) r ⌝ }
 {
     let headed = put_head(out, start(), tally.rules, tally.foldings, flag);

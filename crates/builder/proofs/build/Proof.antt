@@ -77,7 +77,7 @@ few c =
     let bits = k .rules .fewBits in (omega arith, omega arith)
 
 size : (c : tie.After-tally) → length (bytesOf (entered (good (noted c)) .args .flag) (book c)) ≡ (32 + 42 * tally c .foldings + tally c .bits + 7) / 8
-size c = let a = entered (good (noted c)) .args in plate-length (view (a .text .now)) (tally c) (keys c) (foldings c) (a .flag) (fine c .0)
+size c = let a = entered (good (noted c)) .args in plate-length (view (a .text .now)) (tally c) (keys c) (foldings c) (a .flag) (fine c .0) (fine c .1)
 
 -- ---- the needs
 
@@ -147,7 +147,7 @@ returns-4 c =
     let l = c .if3 .taken in
     let e = size at-tally in
     let short : length (a .out .now) < length (bytesOf (a .flag) (book at-tally)) = omega arith in
-    no-room (a .text .now) (a .flag) (a .out .now) (decides at-good) (book at-tally) (fine at-tally .1) short
+    no-room (a .text .now) (a .flag) (a .out .now) (decides at-good) (book at-tally) (fine at-tally .2) short
 
 slice-aggregate-write-plate : tie.Need-slice-aggregate-write-plate
 slice-aggregate-write-plate c = search needs
@@ -160,7 +160,7 @@ write-plate-requires c κs =
     let at-room = c .before .before .before in
     let at-tally = at-room .before .before .before .before in
     let room = at-room .if3 .left in
-    let e = size at-tally in (fine at-tally .0, omega arith)
+    let e = size at-tally in (fine at-tally .0, fine at-tally .1, omega arith)
 
 returns-5 : tie.Need-returns-5
 returns-5 c =
@@ -186,7 +186,7 @@ returns-6 c =
     let e = size at-tally in
     let r = written .write-plate .ensures .1 in
     let room : written .write-plate .result ≤ length (a .out .now) = omega arith in
-    plate-built (a .text .now) (a .flag) (a .out .now) (decides at-good) (book at-tally) (fine at-tally .1) (written .write-plate .result) (written .write-plate .last .0) room
+    plate-built (a .text .now) (a .flag) (a .out .now) (decides at-good) (book at-tally) (fine at-tally .2) (written .write-plate .result) (written .write-plate .last .0) room
     (written .write-plate .ensures)
 
 pub build-spec : {M : Type 1} → statement M

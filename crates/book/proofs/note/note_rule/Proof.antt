@@ -1,4 +1,4 @@
--- `note::note_rule` meets its contract: the fault is the rule's, or its key goes in among the others (Noting.entered). Assumes nothing.
+-- `note::note_rule` meets its contract: the fault is the rule's, or its key goes behind the others (Noting.entered). Assumes nothing.
 use Prim.Native.Nat.{ℕ, _<_}
 use mathlib.Core.Path.{refl, sym, subst}
 use native.Mathlib.Omega.{arith}
@@ -38,44 +38,41 @@ enum-known-bits c = search needs
 
 key-of-requires : tie.Need-key-of-requires
 key-of-requires c κs =
+    let s = start (measured c) in (
+      clean (rule c) (s .args .tally .read) (fine c .0) .short,
+      s .pre .low,
+      subst (λ (h : ℕ). h < hashes) (sym (s .pre .hashed)) (hash-small (s .args .pattern .now)),
+    )
+
+mul-keys : tie.Need-mul-keys
+mul-keys c = search needs
+
+slice-write-keys : tie.Need-slice-write-keys
+slice-write-keys c =
     let k = c .before in
     let s = start (measured k) in
-    (clean (rule k) (s .args .tally .read) (fine k .0) .short, s .pre .2, subst (λ (h : ℕ). h < hashes) (sym (s .pre .3)) (hash-small (s .args .pattern .now)))
-
-insert-key-requires : tie.Need-insert-key-requires
-insert-key-requires c κs =
-    let k = c .before .before in
-    let s = start (measured k) in
     let few = clean (rule k) (s .args .tally .read) (fine k .0) .few in
-    let kept = s .pre .0 .few in
-    let room = s .pre .0 .room in (omega arith, s .pre .0 .sorted)
+    let kept = s .pre .held .few in
+    let room = s .pre .held .room in omega arith
 
 mark-requires : tie.Need-mark-requires
 mark-requires c κs = search needs
 
 -- ---- the sums: what is read, kept, and its bits
 
-abbrev fined : tie.After-slice-known4 → tie.After-known-told2
-fined c =
-    let marked = c .before .before in
-    let put = marked .before .before .before .before in put .before .before .before
+abbrev keyed : tie.After-struct-known3 → tie.After-key-of
+keyed c = let seen = c .before .before .before .before in seen .before .before .before
 
-add-t21 : tie.Need-add-t21
-add-t21 c =
-    let k = fined (c .before) in
-    let few = clean (rule k) (start (measured k) .args .tally .read) (fine k .0) .few in omega arith
+add-t17 : tie.Need-add-t17
+add-t17 c = search needs
 
 add-t22 : tie.Need-add-t22
-add-t22 c =
-    let k = fined (c .before .before) in
-    let h = start (measured k) .pre .0 in
-    let kept = h .few in
-    let few = h .fewRead in omega arith
+add-t22 c = search needs
 
 add-t23 : tie.Need-add-t23
 add-t23 c =
-    let k = fined (c .before .before .before) in
-    let h = start (measured k) .pre .0 in
+    let k = keyed c .before in
+    let h = start (measured k) .pre .held in
     let kept = h .few in
     let few = h .fewRead in
     let so = h .fewBits in
@@ -92,14 +89,13 @@ same-length-2 c = search needs
 
 returns-2 : tie.Need-returns-2
 returns-2 c =
-    let marked = c .before .before .before .before .before in
-    let put = marked .before .before .before .before in
-    let keyed = put .before in
-    let k = keyed .before .before in
+    let seen = c .before .before .before .before in
+    let m = seen .before .mark in
+    let k = keyed c .before in
     let s = start (measured k) in
     let a = s .args in
-    entered (rule k) (a .at) (a .tally) (a .keys .now) (a .seen .now) (put .insert-key .last .0) (marked .mark .last .0) _ (keyed .key-of .result) (a .hash)
-    (fine k) (s .pre .3) (keyed .key-of .ensures) (put .insert-key .ensures) (marked .mark .ensures)
+    entered (rule k) (a .at) (a .tally) (a .keys .now) (a .seen .now) _ (m .last .0) _ (keyed c .key-of .result) (a .hash)
+    (fine k) (s .pre .hashed) (keyed c .key-of .ensures) refl (m .ensures)
 
 pub note-rule-spec : {M : Type 1} → statement M
 note-rule-spec =
@@ -109,9 +105,10 @@ note-rule-spec =
     enum-known-flaw
     enum-known-bits
     key-of-requires
-    insert-key-requires
+    mul-keys
+    slice-write-keys
     mark-requires
-    add-t21
+    add-t17
     add-t22
     add-t23
     returns

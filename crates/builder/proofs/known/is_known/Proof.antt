@@ -12,10 +12,10 @@ abbrev start : tie.After-may-hold → tie.Start
 start c = let slices = c .before .before .before .before in slices .before
 
 may-hold-requires : tie.Need-may-hold-requires
-may-hold-requires c κs = search needs
+may-hold-requires c κs = let slices = c .before .before .before in slices .before .pre .slotted
 
 find-pattern-requires : tie.Need-find-pattern-requires
-find-pattern-requires c κs = let p = start (c .before) .pre in (p .0, p .1, p .4)
+find-pattern-requires c κs = let p = start (c .before) .pre in (p .few, p .sure, p .hashed)
 
 returns : tie.Need-returns
 returns c = c .find-pattern .ensures
@@ -25,8 +25,8 @@ returns-2 c =
     let m = c .before .may-hold in
     let s = start (c .before) in
     let a = s .args in
-    sym (none-met (view (a .text .now)) (length (a .text .now)) (a .pattern .now) (a .seen .now) (take (a .n) (a .keys .now)) (s .pre .1) (s .pre .3)
-    (ap (mayHold (a .seen .now)) (sym (s .pre .4)) ∙ sym (m .ensures) ∙ c .if1 .left))
+    sym (none-met (view (a .text .now)) (length (a .text .now)) (a .pattern .now) (a .seen .now) (take (a .n) (a .keys .now)) (s .pre .sure) (s .pre .met)
+    (ap (mayHold (a .seen .now)) (sym (s .pre .hashed)) ∙ sym (m .ensures) ∙ c .if1 .left))
 
 pub is-known-spec : {M : Type 1} → statement M
 is-known-spec = tie.close (tie.spec may-hold-requires find-pattern-requires returns returns-2)

@@ -67,7 +67,13 @@ is-known-requires c κs =
     let few = held .rules .few in
     let all = held .rules .fewRead in
     let room = held .rules .room in
-    (omega arith, all-later (view (a .text .now)) (a .at) (length (a .text .now)) (take (a .tally .rules) (a .keys .now)) (held .within) (held .sure), held .met .0, held .met .1, h .hash-of .ensures .0)
+    record {
+      few = omega arith;
+      sure = all-later (view (a .text .now)) (a .at) (length (a .text .now)) (take (a .tally .rules) (a .keys .now)) (held .within) (held .sure);
+      slotted = held .met .0;
+      met = held .met .1;
+      hashed = h .hash-of .ensures .0;
+    }
 
 note-double-requires : tie.Need-note-double-requires
 note-double-requires c κs = search needs
@@ -92,7 +98,7 @@ returns c =
 note-rule-requires : tie.Need-note-rule-requires
 note-rule-requires c κs =
     let h = hashed (c .before .before .before) in
-    let p = start (parts h) .pre in (p .0 .rules, p .0 .met .0, p .1, h .hash-of .ensures .0)
+    let p = start (parts h) .pre in record { held = p .0 .rules; slotted = p .0 .met .0; low = p .1; hashed = h .hash-of .ensures .0 }
 
 same-length-3 : tie.Need-same-length-3
 same-length-3 c = search needs

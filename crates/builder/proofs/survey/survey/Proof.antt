@@ -6,9 +6,10 @@ use borrow.Author.Needs.{needs}
 use lib.ListN.{length}
 use Rattle.rule_text.specs.Items.{items}
 use Rattle.book.specs.Book.{blank}
-use Rattle.builder.specs.Build.{verdict}
-use Rattle.builder.specs.Survey.{SoFar, onward, TurnIs}
+use Rattle.builder.specs.Build.{Verdict, verdict}
+use Rattle.builder.specs.Survey.{SoFar, onward, TurnIs, SurveyIs}
 use Rattle.builder.specs.declared.survey.Turn.{Turn}
+use Rattle.builder.specs.declared.survey.Surveyed.the-variants as Surveyed
 use Rattle.builder.proofs.Turns.{survey-start, survey-end}
 use Rattle.builder.proofs.survey.survey.Statement.{statement}
 use Rattle.builder.proofs.survey.survey.Tie as tie
@@ -20,7 +21,7 @@ Inv-loop text keys₀ seen₀ foldings₀ at₀ tally₀ keys seen foldings at t
 abbrev μ-loop : tie.MeasureT-loop
 μ-loop text keys₀ seen₀ foldings₀ at₀ tally₀ keys seen foldings at tally = length text - at
 
--- ---- the places: the call of `enter`, and the loop before it
+-- ---- the places: the call of `enter`, the loop before it, and behind the last item
 
 abbrev called : tie.After-slice-known6 Inv-loop μ-loop → tie.After-enter Inv-loop μ-loop
 called c = let keys = c .before .before .before .before in keys .before .before
@@ -30,6 +31,9 @@ looped c = let inside = c .before .before .before .before in inside .before
 
 abbrev start : tie.At-loop Inv-loop μ-loop → tie.Start Inv-loop μ-loop
 start c = let first = c .before .before .before .before in first .before
+
+abbrev ended : tie.After-slice-known7 Inv-loop μ-loop → tie.At-loop Inv-loop μ-loop
+ended c = let after-loop = c .before .before .before .before in after-loop .before
 
 -- What one turn says, in an arm.
 turned : (c : tie.After-slice-known6 Inv-loop μ-loop) (t : Turn) → called c .enter .result ≡ t
@@ -81,20 +85,32 @@ returns c =
     let known = c .before .before .before in
     sym (looped (called known) .loop .inv .1) ∙ turned known _ (c .before .fault .given .1)
 
+
+sort-keys-requires : tie.Need-sort-keys-requires Inv-loop μ-loop
+sort-keys-requires c κs =
+    let held = c .before .before .loop .inv .0 .noted .rules in
+    let few = held .few in
+    let all = held .fewRead in
+    let room = held .room in omega arith
+
 same-length-4 : tie.Need-same-length-4 Inv-loop μ-loop
-same-length-4 c = let l = c .before in l .loop .inv .0 .noted .rules .room ∙ sym (start l .pre .1)
+same-length-4 c =
+    let l = ended c in c .before .before .sort-keys .kept .0 ∙ l .loop .inv .0 .noted .rules .room ∙ sym (start l .pre .1)
 
 same-length-5 : tie.Need-same-length-5 Inv-loop μ-loop
-same-length-5 c = let l = c .before in l .loop .inv .0 .met .0 ∙ sym (start l .pre .2)
+same-length-5 c = let l = ended c in l .loop .inv .0 .met .0 ∙ sym (start l .pre .2)
 
 same-length-6 : tie.Need-same-length-6 Inv-loop μ-loop
-same-length-6 c = let l = c .before in l .loop .inv .0 .noted .pairs .room ∙ sym (start l .pre .3)
+same-length-6 c = let l = ended c in l .loop .inv .0 .noted .pairs .room ∙ sym (start l .pre .3)
 
 returns-2 : tie.Need-returns-2 Inv-loop μ-loop
 returns-2 c =
-    let l = c .before .loop in
-    let e = survey-end (start (c .before) .args .text .now) (l .at) (l .tally) (l .keys) (l .seen) (l .foldings) (l .inv .0) (c .loop-test .left) in
-    (e .0, sym (l .inv .1) ∙ e .1)
+    let l = ended c .loop in
+    let order = c .before .before .sort-keys in
+    let after-loop = c .before .before .before .before in
+    let text = start (ended c) .args .text .now in
+    subst (λ (v : Verdict). SurveyIs text (order .last .0) (l .foldings) v (Surveyed.Fine (l .tally))) (l .inv .1)
+    (survey-end text (l .at) (l .tally) (l .keys) (l .seen) (l .foldings) (l .inv .0) (after-loop .loop-test .left) (order .last .0) (order .ensures))
 
 pub survey-spec : {M : Type 1} → statement M
 survey-spec =
@@ -112,6 +128,7 @@ survey-spec =
     same-length-2
     same-length-3
     returns
+    sort-keys-requires
     same-length-4
     same-length-5
     same-length-6

@@ -30,7 +30,7 @@ put-head-requires c κs =
     let k = s .pre .0 in
     let kept = k .rules .few in
     let all = k .rules .fewRead in
-    (omega arith, k .pairs .few, ready-head (view (a .text .now)) (a .tally) (a .keys .now) (a .foldings .now) (a .flag) k (s .pre .1) (c .start .ensures))
+    (omega arith, k .pairs .few, ready-head (view (a .text .now)) (a .tally) (a .keys .now) (a .foldings .now) (a .flag) k (s .pre .1) (s .pre .2) (c .start .ensures))
 
 put-pairs-requires : tie.Need-put-pairs-requires
 put-pairs-requires c κs =
@@ -42,7 +42,7 @@ put-pairs-requires c κs =
     let m = k .pairs .room in (
       omega arith,
       k .pairs .small,
-      ready-pairs (view (a .text .now)) (a .tally) (a .keys .now) (a .foldings .now) (a .flag) k (s .pre .1) (h .start .ensures) (c .before .before .before .put-head .ensures),
+      ready-pairs (view (a .text .now)) (a .tally) (a .keys .now) (a .foldings .now) (a .flag) k (s .pre .1) (s .pre .2) (h .start .ensures) (c .before .before .before .put-head .ensures),
     )
 
 put-rules-requires : tie.Need-put-rules-requires
@@ -57,7 +57,7 @@ put-rules-requires c κs =
     let m = k .rules .room in (
       omega arith,
       k .sure,
-      ready-keys (view (a .text .now)) (a .tally) (a .keys .now) (a .foldings .now) (a .flag) k (s .pre .1) (h .start .ensures)
+      ready-keys (view (a .text .now)) (a .tally) (a .keys .now) (a .foldings .now) (a .flag) k (s .pre .1) (s .pre .2) (h .start .ensures)
           (f .before .before .before .put-head .ensures) (c .before .before .before .put-pairs .ensures),
     )
 
@@ -68,7 +68,7 @@ finish-requires c κs =
     let h = headed f in
     let s = start h in
     let a = s .args in
-    ready-end (view (a .text .now)) (a .tally) (a .keys .now) (a .foldings .now) (a .flag) (s .pre .0) (s .pre .1) (h .start .ensures)
+    ready-end (view (a .text .now)) (a .tally) (a .keys .now) (a .foldings .now) (a .flag) (s .pre .0) (s .pre .1) (s .pre .2) (h .start .ensures)
     (f .before .before .before .put-head .ensures) (r .before .before .before .put-pairs .ensures) (c .before .before .before .put-rules .ensures)
 
 same-length : tie.Need-same-length
@@ -83,7 +83,7 @@ returns c =
     let h = headed f in
     let s = start h in
     let a = s .args in
-    wrote-plate (view (a .text .now)) (a .tally) (a .keys .now) (a .foldings .now) (a .flag) (s .pre .0) (s .pre .1) (h .start .ensures)
+    wrote-plate (view (a .text .now)) (a .tally) (a .keys .now) (a .foldings .now) (a .flag) (s .pre .0) (s .pre .1) (s .pre .2) (h .start .ensures)
     (f .before .before .before .put-head .ensures) (r .before .before .before .put-pairs .ensures) (e .before .before .before .put-rules .ensures)
     (done .finish .last .0) (done .finish .result) (done .finish .ensures)
 
