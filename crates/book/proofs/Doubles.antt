@@ -4,7 +4,7 @@ use mathlib.Core.Path.{_≡_, refl, sym, _∙_, ap}
 use mathlib.Core.Bool.{Bool, true, false, _||_, false≢true}
 use mathlib.Core.List.{List, [], _∷_}
 use lib.ListN.{length}
-use Rattle.laws.specs.Lists.{same, some}
+use Rattle.laws.specs.Lists.{some}
 use Rattle.laws.proofs.Same.{same-equal}
 use Rattle.plate.specs.Plate.{Rule, firstCode, ofPattern}
 use Rattle.book.specs.Seen.{hashOf, mayHold}

@@ -2,7 +2,7 @@
 use Prim.Native.Nat.{ℕ, _+_, _<_, _≤_}
 use mathlib.Core.Path.{_≡_, refl}
 use mathlib.Core.Bool.{Bool, true, false, cond, _&&_}
-use mathlib.Core.List.{List, []}
+use mathlib.Core.List.{List}
 use native.Mathlib.Omega.{arith}
 use borrow.Author.Tests.{ltb-false, leb-true, le-leb}
 use lib.Dec.{ltb, leb, lit<}
@@ -11,7 +11,7 @@ use Rattle.laws.specs.Lists.{every, some, splitAt}
 use Rattle.laws.proofs.Tests.{and-true, both-true, is-between}
 use Rattle.laws.proofs.Splits.{one-part}
 use Rattle.chars.specs.Utf8.{isText}
-use Rattle.plate.specs.Plate.{Folding, Rule, mostFoldings, goodField, nonzeroByte, goodRule, goodFolding, rising, ordered, goodFoldings, goodPlate, ofPattern}
+use Rattle.plate.specs.Plate.{Folding, mostFoldings, goodField, nonzeroByte, goodRule, goodFolding, rising, ordered, goodFoldings, goodPlate, ofPattern}
 use Rattle.plate.specs.Most.{mostRules}
 use Rattle.plate.proofs.Round.{is-good}
 use Rattle.book.specs.Book.{Book, blank, ruleOf, putRule, putFolding, withRule, withFolding, plateOf, fieldFault, ruleFault, foldingFault}

@@ -14,7 +14,7 @@ use Rattle.plate.specs.Plate.{Folding, Rule, firstCode, mostBytes, mayPrecede}
 use Rattle.book.specs.Book.{foldingOf, putRule, putFolding}
 use Rattle.book.specs.Sort.{insert, paired, putPair, foldingIn, Small, AllSmall}
 use Rattle.book.specs.Seen.{hashes, hashOf}
-use Rattle.book.specs.Note.{places, lengths, key, placeIn, hashIn, keyOf, rulesIn, Sure, AllSure}
+use Rattle.book.specs.Note.{places, lengths, key, placeIn, hashIn, rulesIn, Sure, AllSure}
 use Rattle.book.proofs.Faults.{clean}
 use Rattle.book.proofs.Hashes.{hash-small}
 

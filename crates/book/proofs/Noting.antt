@@ -1,5 +1,5 @@
 -- What is noted stays what was noted before, with one rule or folding more among it. Assumes nothing.
-use Prim.Native.Nat.{ℕ, _+_, _*_, _<_, _≤_}
+use Prim.Native.Nat.{ℕ, _+_, _<_, _≤_}
 use mathlib.Core.Path.{_≡_, refl, sym, _∙_, ap, subst}
 use mathlib.Core.Bool.{Bool, true, false, cond}
 use mathlib.Core.List.{List, [], _∷_, _++_, map}
@@ -12,7 +12,7 @@ use Rattle.plate.specs.Plate.{Folding, Rule, firstCode, rising, ofPattern}
 use Rattle.plate.specs.Written.{ruleBits}
 use Rattle.plate.specs.Plate.{mostFoldings}
 use Rattle.plate.specs.Most.{ruleMost, mostRules}
-use Rattle.book.specs.Book.{Book, blank, foldingOf, putRule, putFolding, withRule, withFolding, when, ruleFault, foldingFault}
+use Rattle.book.specs.Book.{Book, foldingOf, putRule, putFolding, withRule, withFolding, when, ruleFault, foldingFault}
 use Rattle.book.specs.Sort.{sorted, putPair, foldingIn, AllSmall, PairsHeld, PutIs}
 use Rattle.book.specs.Seen.{hashOf, slots, mayHold, marked}
 use Rattle.book.specs.Note.{places, key, keyOf, placeIn, hashIn, rulesIn, rulesOf, Sure, AllSure, AllMarked, bookOf, KeysHeld, Kept, InOrder, noneNoted}

@@ -30,13 +30,19 @@ slots = 4096
 abbrev pub several : ℕ
 several = 255
 
--- a slot is the upper bits of a hash
-abbrev pub slotOf : ℕ → ℕ
-slotOf h = h / 1024 % slots
+-- a slot is the upper bits of a hash, from here on
+abbrev pub upper : ℕ
+upper = 1024
 
--- from 1 on, and below `several`
+abbrev pub slotOf : ℕ → ℕ
+slotOf h = h / upper % slots
+
+-- how many marks of one hash there are: from 1 on, and below `several`
+abbrev pub marks : ℕ
+marks = 254
+
 abbrev pub markOf : ℕ → ℕ
-markOf h = 1 + h % 254
+markOf h = 1 + h % marks
 
 -- one of this hash may have been met
 abbrev pub mayHold : List ℕ → ℕ → Bool

@@ -144,10 +144,8 @@ pub fn note_rule(
     hash: u64,
 ) -> Noted
     requires { ⌜ Notable tally (now keys) (now seen) (now pattern) at hash ⌝ }
-    ensures {
-        λ r. ⌜ RuleNoted (ruleOf sep (now (pattern .entry)) (now (start .entry)) (now (vowel .entry)) (now (other .entry))) at tally
-            (now (keys .entry)) (now (seen .entry)) (now (keys .exit)) (now (seen .exit)) r ⌝
-    }
+    ensures { λ r. ⌜ RuleNoted (ruleOf sep (now (pattern .entry)) (now (start .entry)) (now (vowel .entry)) (now (other .entry))) at tally
+        (now (keys .entry)) (now (seen .entry)) (now (keys .exit)) (now (seen .exit)) r ⌝ }
 {
     match measure_rule(pattern, start, vowel, other, sep, tally.read) {
         Judged::Wrong(flaw) => Noted::Refused(flaw),

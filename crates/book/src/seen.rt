@@ -1,6 +1,6 @@
 // Which patterns may be among those noted, by a hash: most that are new are told so at once, and no pattern that is noted is ever called new.
 ghost use mathlib.Core.Path.{_≡_};
-ghost use Prim.Native.Nat.{_<_, _≤_};
+ghost use Prim.Native.Nat.{_<_};
 ghost use lib.ListN.{length};
 ghost use Rattle.book.specs.Seen.{hashes, slots, hashOf, slotOf, markOf, mayHold, marked};
 use super::HASHES;

@@ -9,18 +9,15 @@ use lib.ListN.{length, take, drop}
 use Rattle.laws.specs.Lists.{some}
 use Rattle.laws.proofs.Lists.{rest}
 use Rattle.laws.proofs.Parts.{lent, known}
-use Rattle.rule_text.specs.Forms.{inside, entry}
+use Rattle.rule_text.specs.Forms.{entry}
 use Rattle.rule_text.specs.Items.{Item, said, taken, itemOf, itemsAt}
-use Rattle.rule_text.specs.Items.Saying.{RuleItem, FoldingItem}
 use Rattle.rule_text.specs.Answers.{Lies}
 use Rattle.rule_text.specs.declared.Four.{Four}
 use Rattle.rule_text.specs.declared.Entry.{Entry}
 use Rattle.rule_text.specs.declared.Entry.the-variants as E
 use Rattle.rule_text.proofs.Walk as Walk
-use Rattle.plate.specs.Plate.{Rule, mostFoldings, ofPattern}
-use Rattle.plate.specs.Most.{mostRules}
-use Rattle.book.specs.Book.{Book, foldingOf}
-use Rattle.book.specs.Seen.{slots}
+use Rattle.plate.specs.Plate.{Rule, ofPattern}
+use Rattle.book.specs.Book.{Book}
 use Rattle.book.specs.Sort.{sorted}
 use Rattle.book.specs.Note.{places, placeIn, rulesIn, bookOf, Kept, noneNoted, FoldingNoted}
 use Rattle.book.specs.declared.Tally.{Tally}
@@ -30,12 +27,11 @@ use Rattle.book.proofs.Ways as Ways
 use Rattle.book.proofs.Counts.{some-sorted}
 use Rattle.book.proofs.Noting.{none-kept, kept-later, double-kept, double-noted, rule-kept, rule-noted, rule-met, folding-fault, folding-fine, folding-kept, folding-noted}
 use Rattle.book.proofs.Noting.{order-kept, order-made, order-noted}
-use Rattle.builder.specs.Build.{longestText, fault, enter, Verdict, unless, verdict}
+use Rattle.builder.specs.Build.{fault, enter, Verdict, unless, verdict}
 use Rattle.builder.specs.Build.Verdict.{Faulty, Fine}
-use Rattle.builder.specs.Survey.{faultNumber, ruleIn, ruleSaid, view, Met, SoFar, Held, onward, turnOf, NotedAs, FourNoted, TurnIs, SurveyIs}
+use Rattle.builder.specs.Survey.{faultNumber, ruleIn, ruleSaid, view, Met, Room, SoFar, Held, onward, turnOf, NotedAs, FourNoted, TurnIs, SurveyIs}
 use Rattle.builder.specs.declared.Fault.{Fault}
 use Rattle.builder.specs.declared.Fault.the-variants.{NotRecognised, Flawed}
-use Rattle.builder.specs.declared.survey.Turn.{Turn}
 use Rattle.builder.specs.declared.survey.Turn.the-variants.{On, Stop}
 use Rattle.builder.specs.declared.survey.Surveyed.the-variants as Surveyed
 
@@ -65,9 +61,9 @@ module _ (b : Book) (i : Item) (more is : List Item) (e : is ≡ i ∷ more) whe
 
 -- ---- the start and the end
 
-pub survey-start : (text keys seen foldings : List ℕ) → length text ≤ longestText → length keys ≡ mostRules → length seen ≡ slots → length foldings ≡ mostFoldings
-    → SoFar text 0 noneNoted keys seen foldings
-survey-start text keys seen foldings h k s f = record { short = h; within = omega arith; noted = none-kept (view text) 0 keys foldings k f; met = (s, tt) }
+pub survey-start : (text keys seen foldings : List ℕ) → Room text keys seen foldings → SoFar text 0 noneNoted keys seen foldings
+survey-start text keys seen foldings r =
+    record { short = r .short; within = omega arith; noted = none-kept (view text) 0 keys foldings (r .forRules) (r .forFoldings); met = (r .slotted, tt) }
 
 module _ (text : List ℕ) (at : ℕ) (tally : Tally) (keys seen foldings : List ℕ) (k : SoFar text at tally keys seen foldings) where
   pub held : Held text at tally keys seen

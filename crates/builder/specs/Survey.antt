@@ -10,7 +10,8 @@ use Rattle.rule_text.specs.Items.{Saying, said, itemsAt}
 use Rattle.rule_text.specs.Items.Saying.{RuleItem, FoldingItem, LineEndItem, CommentItem, UnknownItem}
 use Rattle.rule_text.specs.Fields.{bar}
 use Rattle.rule_text.specs.declared.Four.{Four}
-use Rattle.plate.specs.Plate.{Rule, ofPattern}
+use Rattle.plate.specs.Plate.{Rule, mostFoldings, ofPattern}
+use Rattle.plate.specs.Most.{mostRules}
 use Rattle.book.specs.Book.{ruleOf}
 use Rattle.book.specs.Seen.{slots, hashOf}
 use Rattle.book.specs.Note.{rulesIn, AllSure, AllMarked, bookOf, KeysHeld, Kept, InOrder, flawNumber, RuleNoted, DoubleNoted}
@@ -54,6 +55,13 @@ view text at = ruleSaid (said (drop at text) (entry (drop at text)))
 -- the hashes of the rules noted are met
 abbrev pub Met : Tally → List ℕ → List ℕ → Type 0
 Met tally keys seen = (length seen ≡ slots) × AllMarked seen (take (tally .rules) keys)
+
+-- a text that is not too long, and arrays that hold what it can say
+pub record Room (text keys seen foldings : List ℕ) : Type 0 where
+  pub short : length text ≤ longestText
+  pub forRules : length keys ≡ mostRules
+  pub slotted : length seen ≡ slots
+  pub forFoldings : length foldings ≡ mostFoldings
 
 pub record SoFar (text : List ℕ) (at : ℕ) (tally : Tally) (keys seen foldings : List ℕ) : Type 0 where
   pub short : length text ≤ longestText

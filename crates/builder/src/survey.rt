@@ -4,13 +4,10 @@ ghost use Prim.Native.Nat.{_≤_, _<_};
 ghost use lib.ListN.{length};
 ghost use Rattle.rule_text.specs.Items.{items};
 ghost use Rattle.rule_text.specs.Answers.{FourIn};
-ghost use Rattle.plate.specs.Plate.{mostFoldings};
-ghost use Rattle.plate.specs.Most.{mostRules};
 ghost use Rattle.book.specs.Book.{blank};
-ghost use Rattle.book.specs.Seen.{slots};
 ghost use Rattle.book.specs.Note.{places};
-ghost use Rattle.builder.specs.Build.{longestText, verdict};
-ghost use Rattle.builder.specs.Survey.{ruleIn, turnOf, Held, SoFar, FourNoted, TurnIs, SurveyIs};
+ghost use Rattle.builder.specs.Build.{verdict};
+ghost use Rattle.builder.specs.Survey.{ruleIn, turnOf, Held, Room, SoFar, FourNoted, TurnIs, SurveyIs};
 use super::BAR;
 use super::Fault;
 use super::known::is_known;
@@ -116,7 +113,7 @@ pub(crate) fn survey(
     seen: &mut [u8],
     foldings: &mut [u64],
 ) -> Surveyed
-    requires { ⌜ (length (now text) ≤ longestText) × (length (now keys) ≡ mostRules) × (length (now seen) ≡ slots) × (length (now foldings) ≡ mostFoldings) ⌝ }
+    requires { ⌜ Room (now text) (now keys) (now seen) (now foldings) ⌝ }
     ensures { λ r. ⌜ SurveyIs (now (text .entry)) (now (keys .exit)) (now (foldings .exit)) (verdict blank (items (now (text .entry)))) r ⌝ }
 {
     let mut at: usize = 0;

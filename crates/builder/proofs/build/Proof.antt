@@ -116,7 +116,7 @@ slice-aggregate-survey-3 : tie.Need-slice-aggregate-survey-3
 slice-aggregate-survey-3 c = search needs
 
 survey-requires : tie.Need-survey-requires
-survey-requires c κs = search needs
+survey-requires c κs = record { short = search needs; forRules = search needs; slotted = search needs; forFoldings = search needs }
 
 enum-known-fault : tie.Need-enum-known-fault
 enum-known-fault c = search needs

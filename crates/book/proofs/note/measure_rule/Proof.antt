@@ -1,6 +1,5 @@
 -- `note::measure_rule` meets its contract. The tests stand in 01's order, so the first that fails is the rule's first fault (Ways). Assumes nothing.
-use Prim.Native.Nat.{ℕ, _+_, _*_, _≤_}
-use mathlib.Core.Path.{_≡_}
+use Prim.Native.Nat.{ℕ, _≤_}
 use native.Mathlib.Omega.{arith}
 use borrow.Author.Needs.{needs}
 use lib.ListN.{length}

@@ -1,6 +1,5 @@
 -- `note::note_folding` meets its contract: it answers what `put_folding` tells (Noting.put-now, put-full). Assumes nothing.
 use borrow.Author.Needs.{needs}
-use native.Mathlib.Omega.{arith}
 use Rattle.book.proofs.Noting.{put-now, put-full}
 use Rattle.book.proofs.note.note_folding.Statement.{statement}
 use Rattle.book.proofs.note.note_folding.Tie as tie

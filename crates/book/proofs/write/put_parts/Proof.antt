@@ -1,5 +1,4 @@
 -- `write::put_parts` meets its contract: five parts, one behind the other (Scripts.wrote-rule). Assumes nothing.
-use mathlib.Core.Path.{_≡_}
 use native.Mathlib.Omega.{arith}
 use borrow.Author.Needs.{needs}
 use Rattle.plate.specs.Plate.{Rule}

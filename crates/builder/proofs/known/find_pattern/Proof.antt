@@ -1,5 +1,5 @@
 -- `known::find_pattern` meets its contract. The loop keeps: one of the keys left has the pattern exactly if one of all has. Assumes nothing.
-use Prim.Native.Nat.{ℕ, _-_, _<_, _≤_}
+use Prim.Native.Nat.{_-_, _≤_}
 use mathlib.Core.Path.{_≡_, refl, sym, _∙_}
 use native.Mathlib.Omega.{arith}
 use lib.ListN.{length, take, drop, getD}

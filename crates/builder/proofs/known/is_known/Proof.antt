@@ -1,6 +1,5 @@
 -- `known::is_known` meets its contract: a pattern whose hash was not met is none of those noted (Doubles.none-met). Assumes nothing.
 use mathlib.Core.Path.{sym, _∙_, ap}
-use borrow.Author.Needs.{needs}
 use lib.ListN.{length, take}
 use Rattle.book.specs.Seen.{mayHold}
 use Rattle.book.proofs.Doubles.{none-met}

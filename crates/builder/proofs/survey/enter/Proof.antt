@@ -1,7 +1,7 @@
 -- `survey::enter` meets its contract. Each form of an item is one turn (Turns: rule-turn, folding-turn, line-end-turn, comment-turn, unknown-turn). Assumes nothing.
 use mathlib.Core.Path.{sym, subst}
 use mathlib.Core.List.{List}
-use Prim.Native.Nat.{ℕ, _+_, _≤_}
+use Prim.Native.Nat.{ℕ}
 use native.Mathlib.Omega.{arith}
 use borrow.Author.Needs.{needs}
 use lib.ListN.{length}
@@ -70,8 +70,11 @@ note-four-requires : tie.Need-note-four-requires
 note-four-requires c κs =
     let k = c .before .before in
     let s = start (rule k) in
-    let a = s .args in
-    (held (a .text .now) (a .at) (a .tally) (a .keys .now) (a .seen .now) (a .foldings .now) (s .pre .0), low (a .text .now) (a .at) (a .tally) (a .keys .now) (a .seen .now) (a .foldings .now) (s .pre .0) (s .pre .1), found k)
+    let a = s .args in (
+      held (a .text .now) (a .at) (a .tally) (a .keys .now) (a .seen .now) (a .foldings .now) (s .pre .0),
+      low (a .text .now) (a .at) (a .tally) (a .keys .now) (a .seen .now) (a .foldings .now) (s .pre .0) (s .pre .1),
+      found k,
+    )
 
 add-behind : tie.Need-add-behind
 add-behind c =
@@ -79,7 +82,8 @@ add-behind c =
     let k = noted .before .before .before in
     let s = start (rule k) in
     let a = s .args in
-    let n = behind-low (a .text .now) (a .at) (a .tally) (a .keys .now) (a .seen .now) (a .foldings .now) (s .pre .0) (s .pre .1) (E.Rule (four k)) (rule k .item .ensures) (k .before .four .given .1) in
+    let n = behind-low (a .text .now) (a .at) (a .tally) (a .keys .now) (a .seen .now) (a .foldings .now) (s .pre .0) (s .pre .1) (E.Rule (four k))
+    (rule k .item .ensures) (k .before .four .given .1) in
     omega arith
 
 behind-requires : tie.Need-behind-requires
@@ -100,7 +104,8 @@ add-behind-2 c =
     let s = start (pair k) in
     let a = s .args in
     let v = k .before .key .given in
-    let n = behind-low (a .text .now) (a .at) (a .tally) (a .keys .now) (a .seen .now) (a .foldings .now) (s .pre .0) (s .pre .1) (E.Folding (v .0 .0) (v .0 .1 .0) (v .0 .1 .1 .0)) (pair k .item .ensures) (v .1) in
+    let n = behind-low (a .text .now) (a .at) (a .tally) (a .keys .now) (a .seen .now) (a .foldings .now) (s .pre .0) (s .pre .1)
+    (E.Folding (v .0 .0) (v .0 .1 .0) (v .0 .1 .1 .0)) (pair k .item .ensures) (v .1) in
     omega arith
 
 behind-requires-2 : tie.Need-behind-requires-2

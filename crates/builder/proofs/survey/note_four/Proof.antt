@@ -1,8 +1,5 @@
 -- `survey::note_four` meets its contract: the rule of the four parts, as they are lent (Again.lent-rule), left out where its pattern is known. Assumes nothing.
-use Prim.Native.Nat.{ℕ, _≤_}
 use mathlib.Core.Path.{_≡_, subst}
-use mathlib.Core.Bool.{Bool}
-use mathlib.Core.List.{List}
 use native.Mathlib.Omega.{arith}
 use borrow.Author.Needs.{needs}
 use lib.ListN.{length, take}

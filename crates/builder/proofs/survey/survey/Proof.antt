@@ -48,7 +48,7 @@ turned c t is =
 loop-holds : tie.Need-loop-holds Inv-loop μ-loop
 loop-holds c =
     let s = c .before .before .before .before in
-    let a = s .args in (survey-start (a .text .now) (a .keys .now) (a .seen .now) (a .foldings .now) (s .pre .0) (s .pre .1) (s .pre .2) (s .pre .3), refl)
+    let a = s .args in (survey-start (a .text .now) (a .keys .now) (a .seen .now) (a .foldings .now) (s .pre), refl)
 
 enter-requires : tie.Need-enter-requires Inv-loop μ-loop
 enter-requires c κs = let inside = c .before .before .before in (inside .before .loop .inv .0, inside .loop-test .taken)
@@ -85,7 +85,6 @@ returns c =
     let known = c .before .before .before in
     sym (looped (called known) .loop .inv .1) ∙ turned known _ (c .before .fault .given .1)
 
-
 sort-keys-requires : tie.Need-sort-keys-requires Inv-loop μ-loop
 sort-keys-requires c κs =
     let held = c .before .before .loop .inv .0 .noted .rules in
@@ -95,13 +94,13 @@ sort-keys-requires c κs =
 
 same-length-4 : tie.Need-same-length-4 Inv-loop μ-loop
 same-length-4 c =
-    let l = ended c in c .before .before .sort-keys .kept .0 ∙ l .loop .inv .0 .noted .rules .room ∙ sym (start l .pre .1)
+    let l = ended c in c .before .before .sort-keys .kept .0 ∙ l .loop .inv .0 .noted .rules .room ∙ sym (start l .pre .forRules)
 
 same-length-5 : tie.Need-same-length-5 Inv-loop μ-loop
-same-length-5 c = let l = ended c in l .loop .inv .0 .met .0 ∙ sym (start l .pre .2)
+same-length-5 c = let l = ended c in l .loop .inv .0 .met .0 ∙ sym (start l .pre .slotted)
 
 same-length-6 : tie.Need-same-length-6 Inv-loop μ-loop
-same-length-6 c = let l = ended c in l .loop .inv .0 .noted .pairs .room ∙ sym (start l .pre .3)
+same-length-6 c = let l = ended c in l .loop .inv .0 .noted .pairs .room ∙ sym (start l .pre .forFoldings)
 
 returns-2 : tie.Need-returns-2 Inv-loop μ-loop
 returns-2 c =

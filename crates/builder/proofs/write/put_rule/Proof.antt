@@ -1,7 +1,5 @@
 -- `write::put_rule` meets its contract. At the place of a key stands the rule that was noted there (Again.viewed-again). Assumes nothing.
 use mathlib.Core.Path.{_≡_, sym, ap}
-use mathlib.Core.List.{List}
-use Prim.Native.Nat.{ℕ}
 use borrow.Author.Needs.{needs}
 use lib.ListN.{length}
 use Rattle.laws.proofs.Parts.{lent, known}
@@ -10,7 +8,6 @@ use Rattle.plate.specs.Written.{ruleBits}
 use Rattle.book.specs.Note.{placeIn}
 use Rattle.book.proofs.Inks.{ready-as, wrote-as}
 use Rattle.builder.specs.Survey.{ruleIn, view}
-use Rattle.plate.specs.Plate.{Rule}
 use Rattle.builder.proofs.Again.{noted-rule, other-arm, viewed-again, fine-again}
 use Rattle.builder.proofs.write.put_rule.Statement.{statement}
 use Rattle.builder.proofs.write.put_rule.Tie as tie
