@@ -6,7 +6,7 @@ use mathlib.Core.Bool.{Bool, cond}
 use mathlib.Core.List.{List, _++_}
 use native.Mathlib.Omega.{arith}
 use lib.Dec.{eqb}
-use lib.ListN.{drop}
+use lib.ListN.{take, drop}
 use Rattle.laws.specs.Lists.{splitAt}
 use Rattle.laws.proofs.Only.{only}
 use Rattle.plate.specs.Bits.{pack}
@@ -14,6 +14,7 @@ use Rattle.plate.specs.Plate.{Rule}
 use Rattle.book.specs.Field.{parsed, Says}
 use Rattle.book.specs.Pen.{begin, bitsIn, Finished}
 use Rattle.book.specs.Seen.{hashes, hashOf, mayHold}
+use Rattle.book.specs.Sort.{sorted}
 use Rattle.book.specs.Note.{flawNumber, RuleNoted, DoubleNoted, FoldingNoted}
 use Rattle.book.specs.declared.Alternatives.{Alternatives}
 use Rattle.book.specs.declared.Flaw.{Flaw}
@@ -63,6 +64,9 @@ note-double q tally (Fine t) (Fine u) e f = ap Fine (only (e .1) (f .1))
 note-double q tally (Fine t) (Refused w) e f = absurd (numbered w (sym f ∙ e .0))
 note-double q tally (Refused w) (Fine t) e f = absurd (numbered w (sym e ∙ f .0))
 note-double q tally (Refused w) (Refused x) e f = ap Refused (same-flaw w x (sym e ∙ f))
+
+pub sort-keys : (n : ℕ) (keys keys′ keys″ : List ℕ) → keys′ ≡ sorted (take n keys) ++ drop n keys → keys″ ≡ sorted (take n keys) ++ drop n keys → keys′ ≡ keys″
+sort-keys n keys keys′ keys″ e f = only e f
 
 -- ---- the hash of a pattern
 
