@@ -2,7 +2,9 @@
 ghost use mathlib.Core.Path.{_≡_};
 ghost use mathlib.Core.Bool.{true};
 ghost use Prim.Native.Nat.{_+_, _*_, _/_, _≤_, _<_};
-ghost use Rattle.plate.specs.Read.{plateIn, accepted};
+ghost use lib.ListN.{length};
+ghost use Rattle.plate.specs.Most.{mostRules};
+ghost use Rattle.plate.specs.Read.{plateIn, accepted, mostOf};
 ghost use Rattle.plate.specs.Noted.{Noted};
 ghost use Rattle.coder.specs.Walk.{uses};
 ghost use Rattle.coder.specs.Answer.{smaller, codedBy, listAnswer, encodeAnswer};
@@ -14,8 +16,10 @@ use super::run::run;
 use super::write::write;
 use chars::lower::lowers;
 use plate::MOST_RULES;
+use plate::MOST_RULES_1;
 use plate::NOTED;
 use plate::accept::accept_noting;
+use plate::edition::most_rules;
 
 // "Room is the smaller of 64 and (buffer length + 1) divided by 7, rounded down."
 fn room_of(n: usize) -> usize
@@ -74,16 +78,45 @@ pub fn code_accepted(
     }
 }
 
+// The codes of a name, with the first `most` alternatives of each field; the rules are noted in what is lent, which has room for those of the plate's edition.
+fn code_noting(plate: &[u8], places: &mut [u32], name: &[u8], out: &mut [u8], most: usize) -> Coded
+    requires { ⌜ mostOf (now plate) ≤ length (now places) ⌝ }
+    ensures { λ r. ⌜ told r (now (out .exit)) ≡ codeAnswer most (now (plate .entry)) (now (name .entry)) (now (out .entry)) ⌝ }
+{
+    let mut groups = [0u32; NOTED];
+    if !accept_noting(plate, places, &mut groups) {
+        return Coded::NotAPlate;
+    }
+    code_accepted(plate, places, &groups, name, out, most)
+}
+
+// The same by a plate of few rules: room for few is cleared.
+fn code_few(plate: &[u8], name: &[u8], out: &mut [u8], most: usize) -> Coded
+    requires { ⌜ mostOf (now plate) ≤ 512 ⌝ }
+    ensures { λ r. ⌜ told r (now (out .exit)) ≡ codeAnswer most (now (plate .entry)) (now (name .entry)) (now (out .entry)) ⌝ }
+{
+    let mut places = [0u32; MOST_RULES_1];
+    code_noting(plate, &mut places, name, out, most)
+}
+
+// The same by any plate.
+fn code_many(plate: &[u8], name: &[u8], out: &mut [u8], most: usize) -> Coded
+    requires { ⌜ mostOf (now plate) ≤ mostRules ⌝ }
+    ensures { λ r. ⌜ told r (now (out .exit)) ≡ codeAnswer most (now (plate .entry)) (now (name .entry)) (now (out .entry)) ⌝ }
+{
+    let mut places = [0u32; MOST_RULES];
+    code_noting(plate, &mut places, name, out, most)
+}
+
 // The codes of a name, with the first `most` alternatives of each field.
 fn code_name(plate: &[u8], name: &[u8], out: &mut [u8], most: usize) -> Coded
     ensures { λ r. ⌜ told r (now (out .exit)) ≡ codeAnswer most (now (plate .entry)) (now (name .entry)) (now (out .entry)) ⌝ }
 {
-    let mut places = [0u32; MOST_RULES];
-    let mut groups = [0u32; NOTED];
-    if !accept_noting(plate, &mut places, &mut groups) {
-        return Coded::NotAPlate;
+    let rules = most_rules(plate);
+    if rules <= MOST_RULES_1 {
+        return code_few(plate, name, out, most);
     }
-    code_accepted(plate, &places, &groups, name, out, most)
+    code_many(plate, name, out, most)
 }
 
 // All codes of a name.

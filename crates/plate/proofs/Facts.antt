@@ -63,7 +63,7 @@ pub asks-2 : (n : ℕ) → edition1 .most < n → editionFor n ≡ edition2
 asks-2 n h = ap (λ (t : Bool). cond t edition1 edition2) (lt-leb n 512 h)
 
 -- The most rules of an edition are no more than those of any.
-most-few : (s : List ℕ) → editionOf s .most ≤ mostRules
+pub most-few : (s : List ℕ) → editionOf s .most ≤ mostRules
 most-few s = by-test (λ e. e .most ≤ mostRules) (eqb (numberAt s 0 8) (edition2 .number)) edition2 edition1 (λ _. omega arith) (λ _. omega arith)
 
 module _ (s : List ℕ) (h : accepted s ≡ true) where

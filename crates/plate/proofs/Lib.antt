@@ -8,6 +8,7 @@ pub mod Fronts
 pub mod Accepted
 pub mod Noting
 pub mod Halves
+pub mod Nibbles
 pub mod Parts
 pub mod Only
 pub mod Shapes

@@ -128,6 +128,10 @@ editionOf s = cond (eqb (numberAt s 0 8) (edition2 .number)) edition2 edition1
 abbrev pub countWidth : List ℕ → ℕ
 countWidth s = editionOf s .width
 
+-- the most rules
+abbrev pub mostOf : List ℕ → ℕ
+mostOf s = editionOf s .most
+
 -- The bytes are a plate, and what they say.
 abbrev pub accepted : List ℕ → Bool
 accepted s = acceptedIn (editionOf s) s

@@ -2,13 +2,13 @@
 ghost use mathlib.Core.Path.{_≡_};
 ghost use mathlib.Core.Bool.{_&&_};
 ghost use mathlib.Core.List.{List};
-ghost use Prim.Native.Nat.{ℕ, _+_, _*_, _≤_, _<_};
+ghost use Prim.Native.Nat.{ℕ, _+_, _*_, _^_, _≤_, _<_};
 ghost use lib.Dec.{ltb};
 ghost use lib.ListN.{length, replicate};
 ghost use Rattle.plate.specs.Bits.{numberAt};
-ghost use Rattle.plate.specs.Plate.{nonzeroScalar, goodFolding, mostFoldings};
+ghost use Rattle.plate.specs.Plate.{nonzeroScalar, goodFolding, mostFoldings, mostDigits};
 ghost use Rattle.plate.specs.Most.{mostRules, alternativeMost, fieldMost, ruleMost, foldingsMost, plateMost, farthest};
-ghost use Rattle.plate.specs.Read.{foldingAt, foldingsPlace, closed, acceptedIn, countWidth, accepted};
+ghost use Rattle.plate.specs.Read.{foldingAt, foldingsPlace, closed, acceptedIn, countWidth, mostOf, accepted};
 ghost use Rattle.plate.specs.Window.{Holds};
 ghost use Rattle.plate.specs.Answers.{bytesAt, lastDigits, upTo, alternativeStep, fieldStep, fieldsStep, firstOf, inOrder, ruleSeen, seenTo, rulesStep, foldingsGood, keyBehind, edition};
 ghost use Rattle.plate.specs.Noted.{notedCharacters, Unnoted, NotedTo, NotedIf};
@@ -32,6 +32,7 @@ use super::Seen;
 use super::Step;
 use super::bits::bits;
 use super::bits::size;
+use super::edition::most_rules;
 use super::note::next_group;
 use super::note::note_group;
 use super::pattern;
@@ -45,20 +46,12 @@ use super::window::window;
 use super::window::window_in;
 use chars::utf8;
 
-// The last n digits of a number, four bits each, are 0 to 9.
+// The last n digits of a number, four bits each, are 0 to 9: none has its bit 3 and one of its bits 2 and 1. All are tested at once; those in front are 0.
 fn accept_digits(number: u64, n: usize) -> bool
+    requires { ⌜ (n ≤ mostDigits) × (number < 2 ^ (4 * n)) ⌝ }
     ensures { λ r. ⌜ r ≡ lastDigits n number ⌝ }
 {
-    let mut rest = number;
-    let mut left = n;
-    while 0 < left {
-        if 9 < rest % 16 {
-            return false;
-        }
-        rest /= 16;
-        left -= 1;
-    }
-    true
+    (number >> 3) & ((number >> 2) | (number >> 1)) & 0x111111 == 0
 }
 
 // The alternative at a place, of whose bits 27 stand in front of a window.
@@ -354,7 +347,7 @@ fn accept_in(
 
 // The bytes are a plate; if so, its rules are noted.
 pub fn accept_noting(plate: &[u8], places: &mut [u32], groups: &mut [u32]) -> bool
-    requires { ⌜ (mostRules ≤ length (now places)) × (now groups ≡ replicate notedCharacters 0) ⌝ }
+    requires { ⌜ (mostOf (now plate) ≤ length (now places)) × (now groups ≡ replicate notedCharacters 0) ⌝ }
     ensures { λ r. ⌜ (r ≡ accepted (now (plate .entry))) × NotedIf r (countWidth (now (plate .entry))) (now (plate .entry)) (now (places .exit)) (now (groups .exit)) ⌝ }
 {
     if bits(plate, 0, 8) == EDITION_2 {
@@ -379,11 +372,33 @@ pub fn accept_noting(plate: &[u8], places: &mut [u32], groups: &mut [u32]) -> bo
     )
 }
 
-// The bytes are a plate.
-pub fn accept(plate: &[u8]) -> bool
+// The bytes are a plate, of an edition of few rules: room for few is cleared.
+fn accept_few(plate: &[u8]) -> bool
+    requires { ⌜ mostOf (now plate) ≤ 512 ⌝ }
+    ensures { λ r. ⌜ r ≡ accepted (now (plate .entry)) ⌝ }
+{
+    let mut places = [0u32; MOST_RULES_1];
+    let mut groups = [0u32; NOTED];
+    accept_noting(plate, &mut places, &mut groups)
+}
+
+// The same of any edition.
+fn accept_many(plate: &[u8]) -> bool
+    requires { ⌜ mostOf (now plate) ≤ mostRules ⌝ }
     ensures { λ r. ⌜ r ≡ accepted (now (plate .entry)) ⌝ }
 {
     let mut places = [0u32; MOST_RULES];
     let mut groups = [0u32; NOTED];
     accept_noting(plate, &mut places, &mut groups)
+}
+
+// The bytes are a plate.
+pub fn accept(plate: &[u8]) -> bool
+    ensures { λ r. ⌜ r ≡ accepted (now (plate .entry)) ⌝ }
+{
+    let most = most_rules(plate);
+    if most <= MOST_RULES_1 {
+        return accept_few(plate);
+    }
+    accept_many(plate)
 }

@@ -1,8 +1,10 @@
 -- `ward` meets its contract: each way out is the definition's, in its order (Answers). Assumes nothing.
-use mathlib.Core.Path.{_≡_, sym, _∙_}
+use mathlib.Core.Path.{_≡_, refl, sym, _∙_}
 use mathlib.Core.Bool.{true}
+use native.Mathlib.Omega.{arith}
 use borrow.Author.Tests.{not-true, not-false}
 use Rattle.plate.specs.Read.{accepted}
+use Rattle.plate.proofs.Facts.{most-few}
 use Rattle.ward.proofs.Answers.{no-plate, many-names, too-small, room-for, all-written}
 use borrow.Author.Needs.{needs}
 use Rattle.ward.proofs.ward.Statement.{statement}
@@ -23,7 +25,9 @@ slice-aggregate-accept-noting-2 : tie.Need-slice-aggregate-accept-noting-2
 slice-aggregate-accept-noting-2 c = search needs
 
 accept-noting-requires : tie.Need-accept-noting-requires
-accept-noting-requires c κs = search needs
+accept-noting-requires c κs =
+    let known = c .before .before in
+    (omega (arith, most-few (known .before .before .before .args .plate .now)), refl)
 
 returns : tie.Need-returns
 returns c =

@@ -1,35 +1,19 @@
--- `plate::accept::accept_digits` meets its contract: the digits left are good exactly if all are; each turn takes the last one off. Assumes nothing.
-use mathlib.Core.Path.{_≡_, refl, sym, _∙_}
+-- `plate::accept::accept_digits` meets its contract: six digits are tested at once, and those in front of the n are 0. Assumes nothing.
+use Prim.Native.Nat.{ℕ, _+_, _-_}
+use mathlib.Core.Path.{_≡_, sym, _∙_, ap}
 use native.Mathlib.Omega.{arith}
 use Rattle.plate.specs.Answers.{lastDigits}
-use Rattle.plate.proofs.Accepted.{digits-end, digits-stop, digits-turn}
+use Rattle.plate.proofs.Nibbles.{digits-at-once, zeros-in-front}
 use Rattle.plate.proofs.accept.accept_digits.Statement.{statement}
 use Rattle.plate.proofs.accept.accept_digits.Tie as tie
 
-abbrev Inv-loop : tie.InvT-loop
-Inv-loop number n rest₀ left₀ rest left = lastDigits left rest ≡ lastDigits n number
-
-abbrev μ-loop : tie.MeasureT-loop
-μ-loop number n rest₀ left₀ rest left = left
-
-loop-holds : tie.Need-loop-holds Inv-loop μ-loop
-loop-holds c = refl
-
-returns : tie.Need-returns Inv-loop μ-loop
-returns c = let l = c .before .before .loop in sym (digits-stop (l .left) (l .rest) (c .before .loop-test .taken) (c .if1 .taken)) ∙ l .inv
-
-sub-left : tie.Need-sub-left Inv-loop μ-loop
-sub-left c = omega arith
-
-loop-less : tie.Need-loop-less Inv-loop μ-loop
-loop-less c = omega arith
-
-loop-again : tie.Need-loop-again Inv-loop μ-loop
-loop-again c = let l = c .before .before .loop in digits-turn (l .left) (l .rest) (c .before .loop-test .taken) (c .if1 .left) ∙ l .inv
-
-returns-2 : tie.Need-returns-2 Inv-loop μ-loop
-returns-2 c = let l = c .before .loop in sym (digits-end (l .left) (l .rest) (c .loop-test .left)) ∙ l .inv
+returns : tie.Need-returns
+returns c =
+    let a = c .args in
+    let six : a .n + (6 - a .n) ≡ 6 = omega (arith, c .pre .0) in
+    digits-at-once 6 (a .number)
+    ∙ sym (ap (λ (m : ℕ). lastDigits m (a .number)) six)
+    ∙ zeros-in-front (6 - a .n) (a .n) (a .number) (c .pre .1)
 
 pub accept-digits-spec : {M : Type 1} → statement M
-accept-digits-spec =
-    tie.close (tie.spec Inv-loop μ-loop loop-holds returns sub-left loop-less loop-again returns-2)
+accept-digits-spec = tie.close (tie.spec returns)

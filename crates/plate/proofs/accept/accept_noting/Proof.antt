@@ -1,5 +1,9 @@
 -- `plate::accept::accept_noting` meets its contract: the first byte tells the edition (Facts.tells-2, tells-1), and accept_in answers for it. Assumes nothing.
-use Rattle.plate.specs.Plate.{edition1, edition2}
+use Prim.Native.Nat.{_≤_}
+use mathlib.Core.Path.{subst}
+use lib.ListN.{length}
+use native.Mathlib.Omega.{arith}
+use Rattle.plate.specs.Plate.{Edition, edition1, edition2}
 use Rattle.plate.proofs.Facts.{tells-1, tells-2}
 use Rattle.plate.proofs.Noting.{told-in}
 use borrow.Author.Needs.{needs}
@@ -13,7 +17,15 @@ add-accept-in : tie.Need-add-accept-in
 add-accept-in c = search needs
 
 accept-in-requires : tie.Need-accept-in-requires
-accept-in-requires c κs = search needs
+accept-in-requires c κs =
+    let tested = c .before .before in
+    let read = tested .before in
+    let start = read .before .before .before .before in
+    let s = start .args .plate .now in
+    (omega arith, omega arith, record {
+      room = subst (λ (e : Edition). e .most ≤ length (start .args .places .now)) (tells-2 s (read .bits .result) (read .bits .ensures .0) (tested .if1 .taken)) (start .pre .0);
+      clear = start .pre .1;
+    })
 
 same-length : tie.Need-same-length
 same-length c = search needs
@@ -30,7 +42,15 @@ returns c =
     told-in s _ _ edition2 (tells-2 s (read .bits .result) (read .bits .ensures .0) (tested .if1 .taken)) (called .accept-in .result) (called .accept-in .ensures)
 
 accept-in-requires-2 : tie.Need-accept-in-requires-2
-accept-in-requires-2 c κs = search needs
+accept-in-requires-2 c κs =
+    let tested = c .before .before in
+    let read = tested .before in
+    let start = read .before .before .before .before in
+    let s = start .args .plate .now in
+    (omega arith, omega arith, record {
+      room = subst (λ (e : Edition). e .most ≤ length (start .args .places .now)) (tells-1 s (read .bits .result) (read .bits .ensures .0) (tested .if1 .left)) (start .pre .0);
+      clear = start .pre .1;
+    })
 
 same-length-3 : tie.Need-same-length-3
 same-length-3 c = search needs

@@ -36,7 +36,7 @@ part-requires-2 : tie.Need-part-requires-2
 part-requires-2 c κs = search needs
 
 accept-digits-requires : tie.Need-accept-digits-requires
-accept-digits-requires c κs = search needs
+accept-digits-requires c κs = (c .before .if1 .left, c .part2 .ensures .0)
 
 add-t8 : tie.Need-add-t8
 add-t8 c = search needs
