@@ -21,7 +21,7 @@ use Rattle.plate.specs.Plate.{goodFolding, rising, firstCode, ordered}
 use Rattle.plate.specs.Read.{foldingsPlace, many, past, alternativeAt, alternativeEnd, fieldAt, fieldEnd, ruleAt, ruleEnd, foldingAt, foldingEnd, ruleCount, foldingCount, reserved}
 use Rattle.plate.specs.Read.{rulesPlace, plateAt, plateEnd, closed, acceptedIn}
 use Rattle.plate.specs.Answers.{bytesAt, goodText, codeIf, firstOf, stepIf, upTo, lastDigits, alternativeStep, alternativesStep, fieldStep, fieldsStep, seenIf, inOrder}
-use Rattle.plate.specs.Answers.{ruleFits, ruleSeen, orderedBehind, rulesStep, above, foldingsGood, keyBehind, edition}
+use Rattle.plate.specs.Answers.{ruleFits, ruleMade, ruleSeen, orderedBehind, rulesStep, above, foldingsGood, keyBehind, edition}
 use Rattle.plate.specs.Window.{Holds}
 use Rattle.plate.specs.declared.Step.{Step}
 use Rattle.plate.specs.declared.Step.the-variants.{To, Nowhere}
@@ -289,7 +289,7 @@ module _ (c n c′ n′ : ℕ) where
   pub order-apart : (c ≡ c′ → ⊥) → ltb c c′ ≡ inOrder c n c′ n′
   order-apart e = sym (ap (λ (u : Bool). ltb c c′ || (u && leb n′ n)) (ne-eqb c c′ e) ∙ or-false (ltb c c′))
 
-module _ (s : List ℕ) (at c n : ℕ) where
+module _ (s : List ℕ) (at : ℕ) where
   abbrev goodAt : ℕ → Bool
   goodAt a = goodField (fieldAt s a)
 
@@ -300,11 +300,11 @@ module _ (s : List ℕ) (at c n : ℕ) where
   goodThree a = goodAt a && (goodAt (endAt a) && goodAt (endAt (endAt a)))
 
   -- the rule, its pattern k bytes long
-  abbrev seenWith : ℕ → Seen
-  seenWith k =
+  abbrev madeWith : ℕ → Seen
+  madeWith k =
       let p = bytesAt s k (at + 5) in
       let a = at + 5 + 8 * k in
-      seenIf ((goodPattern p && goodThree a) && inOrder c n (codeOf (charOf p)) (length p)) (codeOf (charOf p)) (length p) (endAt (endAt (endAt a)))
+      seenIf (goodPattern p && goodThree a) (codeOf (charOf p)) (length p) (endAt (endAt (endAt a)))
 
   module _ (k : ℕ) (e : k ≡ numberAt s at 5) (r : First.First) (d : r ≡ firstOf (bytesAt s k (at + 5))) where
     abbrev pat : List ℕ
@@ -316,34 +316,48 @@ module _ (s : List ℕ) (at c n : ℕ) where
     abbrev seen : Bool → Seen
     seen t = seenIf t (codeOf (charOf pat)) (length pat) (endAt (endAt (endAt here)))
 
-    pub rule-pattern : r ≡ FirstIs.None → Wrong ≡ ruleSeen s at c n
-    rule-pattern f =
-        sym (ap (λ (t : Bool). seen ((t && goodThree here) && inOrder c n (codeOf (charOf pat)) (length pat))) (no-code (goodPattern pat) (codeOf (charOf pat)) d f))
-        ∙ ap seenWith e
+    pub rule-pattern : r ≡ FirstIs.None → Wrong ≡ ruleMade s at
+    rule-pattern f = sym (ap (λ (t : Bool). seen (t && goodThree here)) (no-code (goodPattern pat) (codeOf (charOf pat)) d f)) ∙ ap madeWith e
 
-    module _ (code : ℕ) (f : r ≡ FirstIs.Code code) (o : Bool) (i : o ≡ inOrder c n code k) where
-      order : o ≡ inOrder c n (codeOf (charOf pat)) (length pat)
-      order = i ∙ ap₂ (inOrder c n) (sym (is-code (goodPattern pat) (codeOf (charOf pat)) code d f .1)) (sym (bytes-length s k (at + 5)))
+    module _ (code : ℕ) (f : r ≡ FirstIs.Code code) (q : Step) (l : q ≡ fieldsStep s here) where
+      -- the pattern is right, so the fields decide
+      decides : seen (goodThree here) ≡ ruleMade s at
+      decides = sym (ap (λ (t : Bool). seen (t && goodThree here)) (is-code (goodPattern pat) (codeOf (charOf pat)) code d f .0)) ∙ ap madeWith e
 
-      pub rule-order : o ≡ false → Wrong ≡ ruleSeen s at c n
-      rule-order j = sym (ap seen (and-right-false (goodPattern pat && goodThree here) _ (sym order ∙ j))) ∙ ap seenWith e
+      pub rule-fields : q ≡ Nowhere → Wrong ≡ ruleMade s at
+      rule-fields m = sym (ap seen (nowhere (goodThree here) (endAt (endAt (endAt here))) l m)) ∙ decides
 
-      module _ (j : o ≡ true) (q : Step) (l : q ≡ fieldsStep s here) where
-        -- the pattern and the order are right, so the fields decide
-        decides : seen (goodThree here) ≡ ruleSeen s at c n
-        decides =
-            sym (ap (λ (t : Bool). seen ((t && goodThree here) && inOrder c n (codeOf (charOf pat)) (length pat))) (is-code (goodPattern pat) (codeOf (charOf pat)) code d f .0)
-            ∙ ap seen (and-right-holds (goodThree here) _ (sym order ∙ j)))
-            ∙ ap seenWith e
+      pub rule-good : (next : ℕ) → q ≡ To next → Good code k next ≡ ruleMade s at
+      rule-good next m =
+          let t = to (goodThree here) (endAt (endAt (endAt here))) next l m in
+          sym (λ x. Good (is-code (goodPattern pat) (codeOf (charOf pat)) code d f .1 x) (bytes-length s k (at + 5) x) (t .1 x))
+          ∙ sym (ap seen (t .0)) ∙ decides
 
-        pub rule-fields : q ≡ Nowhere → Wrong ≡ ruleSeen s at c n
-        rule-fields m = sym (ap seen (nowhere (goodThree here) (endAt (endAt (endAt here))) l m)) ∙ decides
+-- A rule behind one of first code point c and n bytes: it is good, and the order decides.
+module _ (s : List ℕ) (at c n : ℕ) (r : Seen) (e : r ≡ ruleMade s at) where
+  abbrev made : Rule
+  made = ruleAt s at
 
-        pub rule-good : (next : ℕ) → q ≡ To next → Good code k next ≡ ruleSeen s at c n
-        rule-good next m =
-            let t = to (goodThree here) (endAt (endAt (endAt here))) next l m in
-            sym (λ x. Good (is-code (goodPattern pat) (codeOf (charOf pat)) code d f .1 x) (bytes-length s k (at + 5) x) (t .1 x))
-            ∙ sym (ap seen (t .0)) ∙ decides
+  abbrev behindIf : Bool → Seen
+  behindIf t = seenIf t (firstCode made) (length (made .pattern)) (ruleEnd s at)
+
+  abbrev inPlace : Bool
+  inPlace = inOrder c n (firstCode made) (length (made .pattern))
+
+  pub made-wrong : r ≡ Wrong → Wrong ≡ ruleSeen s at c n
+  made-wrong f = sym (ap (λ (t : Bool). behindIf (t && inPlace)) (wrong (goodRule made) (firstCode made) (length (made .pattern)) (ruleEnd s at) e f))
+
+  module _ (c′ n′ next : ℕ) (f : r ≡ Good c′ n′ next) where
+    taken : Taken (goodRule made) (firstCode made) (length (made .pattern)) (ruleEnd s at) c′ n′ next
+    taken = good (goodRule made) (firstCode made) (length (made .pattern)) (ruleEnd s at) c′ n′ next e f
+
+    pub order-wrong : inOrder c n c′ n′ ≡ false → Wrong ≡ ruleSeen s at c n
+    order-wrong o = sym (ap behindIf (and-right-false (goodRule made) inPlace (ap₂ (inOrder c n) (taken .code) (taken .bytes) ∙ o)))
+
+    pub order-good : inOrder c n c′ n′ ≡ true → Good c′ n′ next ≡ ruleSeen s at c n
+    order-good o =
+        sym (ap behindIf (and-holds (goodRule made) inPlace (taken .fits) ∙ ap₂ (inOrder c n) (taken .code) (taken .bytes) ∙ o)
+        ∙ (λ x. Good (taken .code x) (taken .bytes x) (taken .behind x)))
 
 -- ---- the rules
 

@@ -20,7 +20,7 @@ use Rattle.plate.specs.Plate.{Rule, Edition, firstCode, goodRule}
 use Rattle.plate.specs.Stands.{Here, Stands}
 use Rattle.plate.specs.Read.{foldingsPlace, many, past, ruleAt, ruleEnd, ruleCount, foldingCount, rulesPlace, acceptedIn, editionOf, countWidth, accepted, plateIn}
 use Rattle.plate.specs.Answers.{inOrder, ruleFits, ruleSeen}
-use Rattle.plate.specs.Noted.{half, notedCharacters, isOf, isOther, GroupIs, Placed, NotedFrom, NotedIn, NotedIf, AllPlaced, Begun}
+use Rattle.plate.specs.Noted.{half, notedCharacters, isOf, isOther, GroupIs, Placed, NotedFrom, NotedIn, NotedIf, AllPlaced}
 use Rattle.plate.specs.declared.Seen.{Seen}
 use Rattle.plate.specs.declared.Seen.the-variants.{Good}
 use Rattle.plate.proofs.Listed.{length-many, getD-many, many-snoc, past-snoc}
@@ -220,26 +220,10 @@ module _ (s : List ℕ) (from i at begun code : ℕ) (places groups : List ℕ) 
 
 -- ---- a group is noted when it is over: the rules are noted once the present one is
 
-set-set : (l : List ℕ) (k x y : ℕ) → set (set l k x) k y ≡ set l k y
+pub set-set : (l : List ℕ) (k x y : ℕ) → set (set l k x) k y ≡ set l k y
 set-set [] k x y = refl
 set-set (z ∷ l) zero x y = refl
 set-set (z ∷ l) (suc k) x y = ap (λ (r : List ℕ). z ∷ r) (set-set l k x y)
-
-pub group-began : (code begun c i b : ℕ) (groups noted : List ℕ) → Begun code begun c i groups b noted → ((c ≡ code) × (b ≡ begun)) ⊎ ((c ≡ code → ⊥) × (b ≡ i))
-group-began code begun c i b groups noted = ⊎-elim (λ w. inl (w .0, w .1)) (λ w. inr (w .0, w .1))
-
-pub now-noted : (code begun c i b : ℕ) (groups noted : List ℕ) → Begun code begun c i groups b noted → (v : ℕ)
-    → set (set groups code (begun * half + i)) c v ≡ set noted c v
-now-noted code begun c i b groups noted h v =
-    ⊎-elim
-    (λ w.
-    ap (λ (k : ℕ). set (set groups code (begun * half + i)) k v) (w .0) ∙ set-set groups code (begun * half + i) v
-    ∙ ap (λ (k : ℕ). set groups k v) (sym (w .0)) ∙ ap (λ (l : List ℕ). set l c v) (sym (w .2)))
-    (λ w. ap (λ (l : List ℕ). set l c v) (sym (w .2)))
-    h
-
-pub begun-length : (code begun c i b : ℕ) (groups noted : List ℕ) → Begun code begun c i groups b noted → length noted ≡ length groups
-begun-length code begun c i b groups noted = ⊎-elim (λ w. ap length (w .2)) (λ w. ap length (w .2) ∙ length-set groups code (begun * half + i))
 
 -- Of all rules that the head counts, it is of the plate.
 pub noted-all : (w : ℕ) (s places groups : List ℕ) (m n : ℕ) → m ≡ foldingCount w s → n ≡ ruleCount w s → NotedFrom s (foldingsPlace + 42 * m) n places groups → NotedIn w s places groups

@@ -105,7 +105,11 @@ inOrder c n c2 n2 = ltb c c2 || (eqb c c2 && leb n2 n)
 abbrev pub ruleFits : Rule → ℕ → ℕ → Bool
 ruleFits r c n = goodRule r && inOrder c n (firstCode r) (length (r .pattern))
 
--- the rule at a place, behind one of first code point c and n bytes
+-- the rule at a place
+abbrev pub ruleMade : List ℕ → ℕ → Seen
+ruleMade s at = let r = ruleAt s at in seenIf (goodRule r) (firstCode r) (length (r .pattern)) (ruleEnd s at)
+
+-- the same behind one of first code point c and n bytes
 abbrev pub ruleSeen : List ℕ → ℕ → ℕ → ℕ → Seen
 ruleSeen s at c n = let r = ruleAt s at in seenIf (ruleFits r c n) (firstCode r) (length (r .pattern)) (ruleEnd s at)
 

@@ -1,11 +1,10 @@
 -- What is noted of a plate's rules while it is accepted: where each stands, and which rules are the group of a small first code point. Assumes nothing.
 use Prim.Native.Nat.{ℕ, _+_, _*_, _/_, _%_, _<_, _≤_}
 use mathlib.Core.Path.{_≡_}
-use mathlib.Core.Logic.{_⊎_}
 use mathlib.Core.Bool.{Bool, true, false, not}
 use mathlib.Core.List.{List}
 use lib.Dec.{eqb, ltb, leb}
-use lib.ListN.{length, take, drop, getD, set, replicate}
+use lib.ListN.{length, take, drop, getD, replicate}
 use lib.Seq.{slice}
 use Rattle.laws.specs.Lists.{every}
 use Rattle.chars.specs.Letters.{latinEnd}
@@ -76,12 +75,6 @@ AllPlaced s places = Placed s (rulesPlace (countWidth s) s) (ruleCount (countWid
 
 abbrev pub Noted : List ℕ → List ℕ → List ℕ → Type 0
 Noted s places groups = NotedIn (countWidth s) s places groups
-
--- Rule i, of first code point c, stands behind rules of which the last group, that of `code`, began at `begun`: it belongs to that group, or begins one
--- and that group is noted.
-abbrev pub Begun : ℕ → ℕ → ℕ → ℕ → List ℕ → ℕ → List ℕ → Type 0
-Begun code begun c i groups b noted =
-    ((c ≡ code) × (b ≡ begun) × (noted ≡ groups)) ⊎ ((c ≡ code → ⊥) × (b ≡ i) × (noted ≡ set groups code (begun * half + i)))
 
 -- what is lent to note n rules in: room for their places, and groups of which none is noted
 pub record Unnoted (n : ℕ) (places groups : List ℕ) : Type 0 where

@@ -1,8 +1,8 @@
 // Which bytes are a plate, in one pass from the front: the place behind each part is where the next begins.
 ghost use mathlib.Core.Path.{_≡_};
-ghost use mathlib.Core.Bool.{_&&_};
+ghost use mathlib.Core.Bool.{true, _&&_};
 ghost use mathlib.Core.List.{List};
-ghost use Prim.Native.Nat.{ℕ, _+_, _*_, _^_, _≤_, _<_};
+ghost use Prim.Native.Nat.{ℕ, _+_, _*_, _/_, _^_, _≤_, _<_};
 ghost use lib.Dec.{ltb};
 ghost use lib.ListN.{length, replicate};
 ghost use Rattle.plate.specs.Bits.{numberAt};
@@ -10,7 +10,7 @@ ghost use Rattle.plate.specs.Plate.{nonzeroScalar, goodFolding, mostFold
 ghost use Rattle.plate.specs.Most.{mostRules, alternativeMost, fieldMost, ruleMost, foldingsMost, plateMost, farthest};
 ghost use Rattle.plate.specs.Read.{foldingAt, foldingsPlace, closed, acceptedIn, countWidth, mostOf, accepted};
 ghost use Rattle.plate.specs.Window.{Holds};
-ghost use Rattle.plate.specs.Answers.{bytesAt, lastDigits, upTo, alternativeStep, fieldStep, fieldsStep, firstOf, inOrder, ruleSeen, seenTo, rulesStep, foldingsGood, keyBehind, edition};
+ghost use Rattle.plate.specs.Answers.{bytesAt, lastDigits, upTo, alternativeStep, fieldStep, fieldsStep, firstOf, ruleMade, seenTo, rulesStep, foldingsGood, keyBehind, edition};
 ghost use Rattle.plate.specs.Noted.{notedCharacters, Unnoted, NotedTo, NotedIf};
 use super::CHARACTER_BITS;
 use super::COUNT_BITS_1;
@@ -33,7 +33,6 @@ use super::Step;
 use super::bits::bits;
 use super::bits::size;
 use super::edition::most_rules;
-use super::note::next_group;
 use super::note::note_group;
 use super::pattern;
 use super::plain::plain_code;
@@ -146,60 +145,45 @@ fn accept_pattern(plate: &[u8], at: usize, n: usize) -> First
     First::None
 }
 
-// A rule of first code point c2 and n2 bytes may stand behind one of c and n.
-fn in_order(c: u32, n: usize, c2: u32, n2: usize) -> bool
-    ensures { λ r. ⌜ r ≡ inOrder c n c2 n2 ⌝ }
-{
-    if c == c2 {
-        return n2 <= n;
-    }
-    c < c2
-}
-
-// Any rule at a place, behind one of first code point c and n bytes.
-fn any_rule(plate: &[u8], at: usize, c: u32, n: usize) -> Seen
+// Any rule at a place.
+fn any_rule(plate: &[u8], at: usize) -> Seen
     requires { ⌜ at ≤ plateMost ⌝ }
-    ensures { λ r. ⌜ (r ≡ ruleSeen (now (plate .entry)) at c n) × seenTo r (at + ruleMost) ⌝ }
+    ensures { λ r. ⌜ (r ≡ ruleMade (now (plate .entry)) at) × seenTo r (at + ruleMost) ⌝ }
 {
     let length = size(plate, at, 5);
     let First::Code(code) = accept_pattern(plate, at + 5, length) else {
         return Seen::Wrong;
     };
-    if in_order(c, n, code, length) {
-        let Step::To(next) = accept_fields(plate, at + 5 + 8 * length) else {
-            return Seen::Wrong;
-        };
-        return Seen::Good(code, length, next);
-    }
-    Seen::Wrong
+    let Step::To(next) = accept_fields(plate, at + 5 + 8 * length) else {
+        return Seen::Wrong;
+    };
+    Seen::Good(code, length, next)
 }
 
-// The rule at a place, behind one of first code point c and n bytes; a plain one, far from the end, by its shape. The last window over it begins no later
-// than 149 bits behind its place, and is eight bytes long: 27 bytes are read at most.
-fn accept_rule(plate: &[u8], at: usize, c: u32, n: usize) -> Seen
+// The rule at a place; a plain one, far from the end, by its shape. The last window over it begins no later than 149 bits behind its place, and is eight
+// bytes long: 27 bytes are read at most.
+fn accept_rule(plate: &[u8], at: usize) -> Seen
     requires { ⌜ at ≤ plateMost ⌝ }
-    ensures { λ r. ⌜ (r ≡ ruleSeen (now (plate .entry)) at c n) × seenTo r (at + ruleMost) ⌝ }
+    ensures { λ r. ⌜ (r ≡ ruleMade (now (plate .entry)) at) × seenTo r (at + ruleMost) ⌝ }
 {
     if plate.len() < at / 8 + 27 {
-        return any_rule(plate, at, c, n);
+        return any_rule(plate, at);
     }
     let w = window_in(plate, at);
     let length = part(w, 0, 5) as usize;
     let code = plain_code(w << 5, length);
     if code == 0 {
-        return any_rule(plate, at, c, n);
+        return any_rule(plate, at);
     }
     let bits = plain_fields(plate, at + 5 + 8 * length);
     if bits == 0 {
-        return any_rule(plate, at, c, n);
+        return any_rule(plate, at);
     }
-    if in_order(c, n, code, length) {
-        return Seen::Good(code, length, at + 5 + 8 * length + bits);
-    }
-    Seen::Wrong
+    Seen::Good(code, length, at + 5 + 8 * length + bits)
 }
 
-// The n rules from a place on; each is noted as it is accepted, and each group when it is over.
+// The n rules from a place on, each in order behind the one before; each is noted as it is accepted, and each group when it is over. One comparison of first
+// code points tells whether a rule belongs to the group, and so whether its length or its code point decides the order.
 fn accept_rules(plate: &[u8], from: usize, n: usize, places: &mut [u32], groups: &mut [u32]) -> Step
     requires { ⌜ (from ≤ foldingsMost) × (n ≤ mostRules) × Unnoted n (now places) (now groups) ⌝ }
     ensures { λ r. ⌜ (r ≡ rulesStep (now (plate .entry)) from n 0 0) × upTo r (from + ruleMost * n) × NotedTo r (now (plate .entry)) from n (now (places .exit)) (now (groups .exit)) ⌝ }
@@ -210,11 +194,24 @@ fn accept_rules(plate: &[u8], from: usize, n: usize, places: &mut [u32], groups:
     let mut code: u32 = 0;
     let mut length: usize = 0;
     while i < n {
-        let Seen::Good(c, k, next) = accept_rule(plate, at, code, length) else {
+        let Seen::Good(c, k, next) = accept_rule(plate, at) else {
             return Step::Nowhere;
         };
         places[i] = at as u32;
-        begun = next_group(groups, code, begun, c, i);
+        if c == code {
+            if length < k {
+                return Step::Nowhere;
+            }
+            i += 1;
+            at = next;
+            length = k;
+            continue;
+        }
+        if c < code {
+            return Step::Nowhere;
+        }
+        note_group(groups, code, begun, i);
+        begun = i;
         i += 1;
         at = next;
         code = c;
@@ -259,23 +256,8 @@ fn any_key(plate: &[u8], at: usize, before: u32) -> u32
     0
 }
 
-// The same; of a plain folding by its shape.
-fn accept_key(plate: &[u8], at: usize, before: u32) -> u32
-    requires { ⌜ at ≤ foldingsMost ⌝ }
-    ensures { λ r. ⌜ r ≡ keyBehind (now (plate .entry)) at before ⌝ }
-{
-    if plate.len() < at / 8 + 8 {
-        return any_key(plate, at, before);
-    }
-    let key = plain_key(window_in(plate, at), before);
-    if key == 0 {
-        return any_key(plate, at, before);
-    }
-    key
-}
-
-// The n foldings.
-fn accept_foldings(plate: &[u8], n: usize) -> bool
+// Any n foldings.
+fn any_foldings(plate: &[u8], n: usize) -> bool
     requires { ⌜ n ≤ mostFoldings ⌝ }
     ensures { λ r. ⌜ r ≡ foldingsGood (now (plate .entry)) foldingsPlace n 0 ⌝ }
 {
@@ -283,7 +265,7 @@ fn accept_foldings(plate: &[u8], n: usize) -> bool
     let mut left = n;
     let mut before: u32 = 0;
     while 0 < left {
-        let key = accept_key(plate, at, before);
+        let key = any_key(plate, at, before);
         if key == 0 {
             return false;
         }
@@ -292,6 +274,40 @@ fn accept_foldings(plate: &[u8], n: usize) -> bool
         left -= 1;
     }
     true
+}
+
+// The n foldings are plain, by their shape, and good; the windows over them are there.
+fn plain_foldings(plate: &[u8], n: usize) -> bool
+    requires { ⌜ (n ≤ mostFoldings) × ((foldingsPlace + 42 * n) / 8 + 8 ≤ length (now plate)) ⌝ }
+    ensures { λ r. ⌜ (r ≡ true → true ≡ foldingsGood (now (plate .entry)) foldingsPlace n 0) ⌝ }
+{
+    let mut at: usize = FOLDINGS;
+    let mut left = n;
+    let mut before: u32 = 0;
+    while 0 < left {
+        let key = plain_key(window_in(plate, at), before);
+        if key == 0 {
+            return false;
+        }
+        before = key;
+        at += FOLDING_BITS;
+        left -= 1;
+    }
+    true
+}
+
+// The n foldings: mostly all are plain and far from the end, which is tested once.
+fn accept_foldings(plate: &[u8], n: usize) -> bool
+    requires { ⌜ n ≤ mostFoldings ⌝ }
+    ensures { λ r. ⌜ r ≡ foldingsGood (now (plate .entry)) foldingsPlace n 0 ⌝ }
+{
+    if plate.len() < (FOLDINGS + FOLDING_BITS * n) / 8 + 8 {
+        return any_foldings(plate, n);
+    }
+    if plain_foldings(plate, n) {
+        return true;
+    }
+    any_foldings(plate, n)
 }
 
 // The bits end in the last byte, and zeros fill it.

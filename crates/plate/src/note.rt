@@ -6,7 +6,7 @@ ghost use Prim.Native.Nat.{_+_, _*_, _≤_};
 ghost use lib.ListN.{length, set};
 ghost use Rattle.plate.specs.Most.{mostRules};
 ghost use Rattle.plate.specs.Read.{accepted, plateIn};
-ghost use Rattle.plate.specs.Noted.{notedCharacters, half, GroupIs, Parted, AllPlaced, Noted, Begun};
+ghost use Rattle.plate.specs.Noted.{notedCharacters, half, GroupIs, Parted, AllPlaced, Noted};
 use super::Group;
 use super::NOTED;
 use super::read;
@@ -23,19 +23,6 @@ pub(crate) fn note_group(groups: &mut [u32], c: u32, first: usize, behind: usize
         return;
     }
     groups[c as usize] = (first * HALF + behind) as u32;
-}
-
-// Where the group begins that rule i, of first code point c, belongs to: with the rule before, whose group began at `begun`, or here; then that of the
-// rule before is over, and noted.
-pub(crate) fn next_group(groups: &mut [u32], code: u32, begun: usize, c: u32, i: usize) -> usize
-    requires { ⌜ (length (now groups) ≡ notedCharacters) × (begun ≤ mostRules) × (i ≤ mostRules) ⌝ }
-    ensures { λ r. ⌜ Begun code begun c i (now (groups .entry)) r (now (groups .exit)) ⌝ }
-{
-    if c == code {
-        return begun;
-    }
-    note_group(groups, code, begun, i);
-    i
 }
 
 // How many of n rules begin with a character below c: those in front, since rules stand by first character.

@@ -1,72 +1,45 @@
--- `plate::accept::accept_foldings` meets its contract: the foldings left, behind the key before, are good and rising exactly if all are; each turn
--- takes the first one off. Assumes nothing.
-use Prim.Native.Nat.{_+_, _*_}
-use mathlib.Core.Path.{_≡_, refl, sym, _∙_}
-use mathlib.Core.Bool.{true, false}
-use native.Mathlib.Omega.{arith}
-use Rattle.plate.specs.Answers.{foldingsGood}
-use Rattle.plate.proofs.Accepted.{foldings-turn, foldings-stop, foldings-end, no-key, some-key}
+-- `plate::accept::accept_foldings` meets its contract: plain ones are good, and of any others the long way tells. Assumes nothing.
+use borrow.Author.Needs.{needs}
 use Rattle.plate.proofs.accept.accept_foldings.Statement.{statement}
 use Rattle.plate.proofs.accept.accept_foldings.Tie as tie
 
-abbrev Inv-loop : tie.InvT-loop
-Inv-loop plate n at₀ left₀ before₀ at left before = (at + 42 * left ≡ 32 + 42 * n) × (foldingsGood plate at left before ≡ foldingsGood plate 32 n 0)
+mul-if1 : tie.Need-mul-if1
+mul-if1 c = search needs
 
-abbrev μ-loop : tie.MeasureT-loop
-μ-loop plate n at₀ left₀ before₀ at left before = left
+add-if1 : tie.Need-add-if1
+add-if1 c = search needs
 
-loop-holds : tie.Need-loop-holds Inv-loop μ-loop
-loop-holds c = (refl, refl)
+add-if1-2 : tie.Need-add-if1-2
+add-if1-2 c = search needs
 
-accept-key-requires : tie.Need-accept-key-requires Inv-loop μ-loop
-accept-key-requires c κs = omega arith
+any-foldings-requires : tie.Need-any-foldings-requires
+any-foldings-requires c κs = search needs
 
-returns : tie.Need-returns Inv-loop μ-loop
-returns c =
-    let read = c .before in
-    let turn = read .before in
-    let at-loop = turn .before in
-    let s = at-loop .before .before .args .plate .now in
-    let l = at-loop .loop in
-    let k = read .accept-key in
-    foldings-stop s (l .at) (l .before) (l .left) (turn .loop-test .taken) false (sym (no-key s (l .at) (l .before) (k .result) (k .ensures) (c .if1 .taken))) refl ∙ l .inv .1
+returns : tie.Need-returns
+returns c = search needs
 
-add-at : tie.Need-add-at Inv-loop μ-loop
-add-at c = omega arith
+plain-foldings-requires : tie.Need-plain-foldings-requires
+plain-foldings-requires c κs = search needs
 
-sub-left : tie.Need-sub-left Inv-loop μ-loop
-sub-left c = omega arith
+returns-2 : tie.Need-returns-2
+returns-2 c = c .before .plain-foldings .ensures (c .if2 .taken)
 
-loop-less : tie.Need-loop-less Inv-loop μ-loop
-loop-less c = omega arith
+any-foldings-requires-2 : tie.Need-any-foldings-requires-2
+any-foldings-requires-2 c κs = search needs
 
-loop-again : tie.Need-loop-again Inv-loop μ-loop
-loop-again c =
-    let read = c .before in
-    let turn = read .before in
-    let at-loop = turn .before in
-    let s = at-loop .before .before .args .plate .now in
-    let l = at-loop .loop in
-    let k = read .accept-key in
-    let good = some-key s (l .at) (l .before) (k .result) (k .ensures) (c .if1 .left) in
-    (omega arith, foldings-turn s (l .at) (l .before) (l .left) (turn .loop-test .taken) true (sym (good .0)) refl (k .result) (good .1) ∙ l .inv .1)
-
-returns-2 : tie.Need-returns-2 Inv-loop μ-loop
-returns-2 c =
-    let l = c .before .loop in
-    sym (foldings-end (c .before .before .before .args .plate .now) (l .at) (l .left) (l .before) (c .loop-test .left)) ∙ l .inv .1
+returns-3 : tie.Need-returns-3
+returns-3 c = search needs
 
 pub accept-foldings-spec : {M : Type 1} → statement M
 accept-foldings-spec =
     tie.close
     (tie.spec
-    Inv-loop
-    μ-loop
-    loop-holds
-    accept-key-requires
+    mul-if1
+    add-if1
+    add-if1-2
+    any-foldings-requires
     returns
-    add-at
-    sub-left
-    loop-less
-    loop-again
-    returns-2)
+    plain-foldings-requires
+    returns-2
+    any-foldings-requires-2
+    returns-3)

@@ -1,5 +1,4 @@
--- `plate::accept::accept_rule` meets its contract: a plain pattern and plain fields are those of the definition, and the order decides (Accepted.rule-order,
--- rule-good); any other rule is left to `any_rule`. Assumes nothing.
+-- `plate::accept::accept_rule` meets its contract: a plain pattern and plain fields are those of the definition (Accepted.rule-good); any other rule is left to `any_rule`. Assumes nothing.
 use Prim.Native.Nat.{ℕ, _+_, _*_, _≤_}
 use mathlib.Core.Path.{_≡_, refl, _∙_, ap}
 use native.Mathlib.Nat.{add-zero}
@@ -9,7 +8,7 @@ use Rattle.plate.specs.Bits.{numberAt}
 use Rattle.plate.specs.Answers.{bytesAt, firstOf}
 use Rattle.plate.specs.declared.First.the-variants as FirstIs
 use Rattle.plate.specs.declared.Step.the-variants.{To}
-use Rattle.plate.proofs.Accepted.{rule-order, rule-good}
+use Rattle.plate.proofs.Accepted.{rule-good}
 use Rattle.plate.proofs.Shapes.{behind-held}
 use Rattle.plate.proofs.accept.accept_rule.Statement.{statement}
 use Rattle.plate.proofs.accept.accept_rule.Tie as tie
@@ -84,52 +83,31 @@ any-rule-requires-3 c κs = search needs
 returns-3 : tie.Need-returns-3
 returns-3 c = search needs
 
-in-order-requires : tie.Need-in-order-requires
-in-order-requires c κs = search needs
+add-t9 : tie.Need-add-t9
+add-t9 c = search needs
 
-add-t15 : tie.Need-add-t15
-add-t15 c = search needs
+mul-t7 : tie.Need-mul-t7
+mul-t7 c = search needs
 
-mul-t16 : tie.Need-mul-t16
-mul-t16 c = search needs
+add-t8 : tie.Need-add-t8
+add-t8 c = search needs
 
-add-t17 : tie.Need-add-t17
-add-t17 c = search needs
-
-add-t18 : tie.Need-add-t18
-add-t18 c = search needs
+add-t12 : tie.Need-add-t12
+add-t12 c = search needs
 
 returns-4 : tie.Need-returns-4
 returns-4 c =
-    let told = c .before in
-    let fields = told .before .before in
+    let fields = c .before in
     let plain = fields .before in
     let counted = plain .before .before in
     let a = entry counted .args in
     let n = counted .part .result in
     let code = plain .before .plain-code in
-    let o = told .in-order in
     let few = code .ensures (plain .if2 .left) .0 in
     let b = fields .plain-fields in
     let short = b .ensures .0 in
     let next = a .at + 5 + 8 * n + b .result in (
-      rule-good (a .plate .now) (a .at) (a .c) (a .n) n (length-is counted) (FirstIs.Code (code .result)) (is-code plain) (code .result) refl (o .result) (o .ensures) (c .if4 .taken)
-          (To next) (b .ensures .1 (told .before .if3 .left)) next refl,
-      omega arith,
-    )
-
-returns-5 : tie.Need-returns-5
-returns-5 c =
-    let told = c .before in
-    let fields = told .before .before in
-    let plain = fields .before in
-    let counted = plain .before .before in
-    let a = entry counted .args in
-    let n = counted .part .result in
-    let code = plain .before .plain-code in
-    let o = told .in-order in (
-      rule-order (a .plate .now) (a .at) (a .c) (a .n) n (length-is counted) (FirstIs.Code (code .result)) (is-code plain) (code .result) refl (o .result) (o .ensures)
-          (c .if4 .left),
+      rule-good (a .plate .now) (a .at) n (length-is counted) (FirstIs.Code (code .result)) (is-code plain) (code .result) refl (To next) (b .ensures .1 (c .if3 .left)) next refl,
       omega arith,
     )
 
@@ -151,10 +129,8 @@ accept-rule-spec =
     plain-fields-requires
     any-rule-requires-3
     returns-3
-    in-order-requires
-    add-t15
-    mul-t16
-    add-t17
-    add-t18
-    returns-4
-    returns-5)
+    add-t9
+    mul-t7
+    add-t8
+    add-t12
+    returns-4)

@@ -2,16 +2,19 @@
 -- Assumes nothing.
 use Prim.Native.Nat.{ℕ, _+_, _-_, _*_, _≤_, _<_}
 use mathlib.Core.Path.{_≡_, refl, sym, _∙_, ap, subst}
+use mathlib.Core.Logic.{inl, inr}
 use mathlib.Core.List.{List}
 use native.Mathlib.Nat.{sub-zero}
 use native.Mathlib.Omega.{arith}
 use borrow.Author.Needs.{needs}
+use borrow.Author.Tests.{lt-ltb, le-ltb, le-leb, lt-leb}
 use lib.ListN.{length, set, length-set, length-replicate}
 use Rattle.plate.specs.Answers.{rulesStep}
 use Rattle.plate.specs.Most.{ruleMost}
+use Rattle.plate.specs.declared.Seen.the-variants.{Good, Wrong}
 use Rattle.plate.specs.Noted.{half, notedCharacters, NotedFrom}
-use Rattle.plate.proofs.Accepted.{rules-stop, rules-turn, rules-end}
-use Rattle.plate.proofs.Noting.{Going, going-start, going-turn, group-began, now-noted, begun-length}
+use Rattle.plate.proofs.Accepted.{made-wrong, order-wrong, order-good, order-same, order-apart, rules-stop, rules-turn, rules-end}
+use Rattle.plate.proofs.Noting.{Going, going-start, going-turn, set-set}
 use Rattle.plate.proofs.accept.accept_rules.Statement.{statement}
 use Rattle.plate.proofs.accept.accept_rules.Tie as tie
 
@@ -67,7 +70,8 @@ returns c =
     let at-loop = seen .before .before in
     let a = let start = at-loop .before .before .before .before in start .args in
     let l = at-loop .loop in (
-      rules-stop (a .plate .now) (l .at) (a .n - l .i) (l .code) (l .length) (omega arith) (seen .accept-rule .result) (seen .accept-rule .ensures .0) (c .enum-told .given .1)
+      rules-stop (a .plate .now) (l .at) (a .n - l .i) (l .code) (l .length) (omega arith) Wrong
+          (made-wrong (a .plate .now) (l .at) (l .code) (l .length) (seen .accept-rule .result) (seen .accept-rule .ensures .0) (c .enum-told .given .1)) refl
           ∙ l .inv .2 .left,
       omega arith,
       tt,
@@ -82,11 +86,42 @@ mul-places c = omega arith
 slice-write-places : tie.Need-slice-write-places Inv-loop μ-loop
 slice-write-places c = let p = let known = c .before in known .before .before .before .before .loop .inv .2 .long in omega arith
 
-next-group-requires : tie.Need-next-group-requires Inv-loop μ-loop
-next-group-requires c κs =
-    let at-loop = let known = c .before .before in known .before .before .before .before in
-    let q = at-loop .loop .inv .2 .going .last .rising in
-    (at-loop .loop .inv .2 .size, omega arith, omega arith)
+same-length-3 : tie.Need-same-length-3 Inv-loop μ-loop
+same-length-3 c =
+    let tested = c .before in
+    let known = tested .before .before in
+    let seen = known .before .before in
+    let at-loop = seen .before .before in
+    let start = at-loop .before .before .before .before in
+    let l = at-loop .loop in
+    length-set (l .places) (l .i) (l .at) ∙ l .inv .2 .long
+
+same-length-4 : tie.Need-same-length-4 Inv-loop μ-loop
+same-length-4 c =
+    let tested = c .before in
+    let known = tested .before .before in
+    let seen = known .before .before in
+    let at-loop = seen .before .before in
+    let start = at-loop .before .before .before .before in
+    at-loop .loop .inv .2 .size ∙ sym (ap length (start .pre .2 .clear) ∙ length-replicate {A = ℕ} notedCharacters 0)
+
+returns-2 : tie.Need-returns-2 Inv-loop μ-loop
+returns-2 c =
+    let same = c .before in
+    let known = same .before .before in
+    let seen = known .before .before in
+    let at-loop = seen .before .before in
+    let start = at-loop .before .before .before .before in
+    let a = start .args in
+    let s = a .plate .now in
+    let l = at-loop .loop in
+    let v = known .c .given in
+    let r = seen .accept-rule in
+    let going = seen .before .loop-test .taken in
+    let more : 0 < a .n - l .i = omega (arith, going) in
+    let long = sym (order-same (l .code) (l .length) (v .0 .0) (v .0 .1 .0) (sym (same .if1 .taken))) ∙ lt-leb (v .0 .1 .0) (l .length) (c .if2 .taken) in
+    let wrong = order-wrong s (l .at) (l .code) (l .length) (r .result) (r .ensures .0) (v .0 .0) (v .0 .1 .0) (v .0 .1 .1 .0) (v .1) long in
+    (rules-stop s (l .at) (a .n - l .i) (l .code) (l .length) more Wrong wrong refl ∙ l .inv .2 .left, omega arith, tt)
 
 add-i : tie.Need-add-i Inv-loop μ-loop
 add-i c = omega arith
@@ -96,8 +131,8 @@ loop-less c = omega arith
 
 loop-again : tie.Need-loop-again Inv-loop μ-loop
 loop-again c =
-    let begun = c .before .before in
-    let known = begun .before .before .before in
+    let same = c .before in
+    let known = same .before .before in
     let seen = known .before .before in
     let at-loop = seen .before .before in
     let start = at-loop .before .before .before .before in
@@ -106,52 +141,147 @@ loop-again c =
     let l = at-loop .loop in
     let v = known .c .given in
     let r = seen .accept-rule in
-    let w = rw (v .1) at (r .ensures .1) in
-    let p = l .inv .2 .long in
     let going = seen .before .loop-test .taken in
     let more : 0 < a .n - l .i = omega (arith, going) in
+    let w = rw (v .1) at (r .ensures .1) in
+    let p = l .inv .2 .long in
     let room : l .i < length (l .places) = omega (arith, going, p, start .pre .2 .room) in
-    let b = begun .next-group in
-    let told = b .ensures in
+    let k = v .0 .1 .0 in
+    let next = v .0 .1 .1 .0 in
+    let is-good : r .result ≡ Good (l .code) k next = v .1 ∙ ap (λ (x : ℕ). Good x k next) (same .if1 .taken) in
+    let in-order = sym (order-same (l .code) (l .length) (l .code) k refl) ∙ le-leb k (l .length) (c .if2 .left) in
+    let fits = order-good s (l .at) (l .code) (l .length) (r .result) (r .ensures .0) (l .code) k next is-good in-order in
     let open-groups = set (l .groups) (l .code) (l .begun * half + l .i) in (
       omega arith,
       omega arith,
       record {
         long = length-set (l .places) (l .i) (l .at) ∙ p;
-        left = ap (λ (k : ℕ). rulesStep s (v .0 .1 .1 .0) k (v .0 .0) (v .0 .1 .0)) {x = a .n - (l .i + 1)} {y = a .n - l .i - 1} (omega arith)
-            ∙ rules-turn s (l .at) (a .n - l .i) (l .code) (l .length) more (r .result) (r .ensures .0) (v .0 .0) (v .0 .1 .0) (v .0 .1 .1 .0) (v .1)
+        left = ap (λ (m : ℕ). rulesStep s next m (l .code) k) {x = a .n - (l .i + 1)} {y = a .n - l .i - 1} (omega arith)
+            ∙ rules-turn s (l .at) (a .n - l .i) (l .code) (l .length) more (Good (l .code) k next) fits (l .code) k next refl
             ∙ l .inv .2 .left;
-        size = begun-length (l .code) (l .begun) (v .0 .0) (l .i) (b .result) (l .groups) _ told ∙ l .inv .2 .size;
-        going = subst (λ (x : List ℕ). Going s (a .from) (l .i + 1) (v .0 .1 .1 .0) (b .result) (v .0 .0) (set (l .places) (l .i) (l .at)) x)
-            (now-noted (l .code) (l .begun) (v .0 .0) (l .i) (b .result) (l .groups) _ told (b .result * half + (l .i + 1)))
-            (going-turn s (a .from) (l .i) (l .at) (l .begun) (l .code) (l .places) open-groups (l .inv .2 .going) (l .length) (r .result) (r .ensures .0) (v .0 .0) (v .0 .1 .0)
-            (v .0 .1 .1 .0) (v .1) (b .result) (group-began (l .code) (l .begun) (v .0 .0) (l .i) (b .result) (l .groups) _ told) (omega arith) room);
+        size = l .inv .2 .size;
+        going = subst (λ (x : List ℕ). Going s (a .from) (l .i + 1) next (l .begun) (l .code) (set (l .places) (l .i) (l .at)) x)
+            (set-set (l .groups) (l .code) (l .begun * half + l .i) (l .begun * half + (l .i + 1)))
+            (going-turn s (a .from) (l .i) (l .at) (l .begun) (l .code) (l .places) open-groups (l .inv .2 .going) (l .length) (Good (l .code) k next) fits (l .code) k next refl
+            (l .begun) (inl (refl, refl)) (omega arith) room);
       },
     )
 
+same-length-5 : tie.Need-same-length-5 Inv-loop μ-loop
+same-length-5 c =
+    let tested = c .before in
+    let known = tested .before .before in
+    let seen = known .before .before in
+    let at-loop = seen .before .before in
+    let start = at-loop .before .before .before .before in
+    let l = at-loop .loop in
+    length-set (l .places) (l .i) (l .at) ∙ l .inv .2 .long
+
+same-length-6 : tie.Need-same-length-6 Inv-loop μ-loop
+same-length-6 c =
+    let tested = c .before in
+    let known = tested .before .before in
+    let seen = known .before .before in
+    let at-loop = seen .before .before in
+    let start = at-loop .before .before .before .before in
+    at-loop .loop .inv .2 .size ∙ sym (ap length (start .pre .2 .clear) ∙ length-replicate {A = ℕ} notedCharacters 0)
+
+returns-3 : tie.Need-returns-3 Inv-loop μ-loop
+returns-3 c =
+    let apart = c .before in
+    let known = apart .before .before in
+    let seen = known .before .before in
+    let at-loop = seen .before .before in
+    let start = at-loop .before .before .before .before in
+    let a = start .args in
+    let s = a .plate .now in
+    let l = at-loop .loop in
+    let v = known .c .given in
+    let r = seen .accept-rule in
+    let going = seen .before .loop-test .taken in
+    let more : 0 < a .n - l .i = omega (arith, going) in
+    let other = apart .if1 .left in
+    let low : v .0 .0 ≤ l .code = omega (arith, c .if3 .taken) in
+    let back = sym (order-apart (l .code) (l .length) (v .0 .0) (v .0 .1 .0) (λ e. other (sym e))) ∙ le-ltb (l .code) (v .0 .0) low in
+    let wrong = order-wrong s (l .at) (l .code) (l .length) (r .result) (r .ensures .0) (v .0 .0) (v .0 .1 .0) (v .0 .1 .1 .0) (v .1) back in
+    (rules-stop s (l .at) (a .n - l .i) (l .code) (l .length) more Wrong wrong refl ∙ l .inv .2 .left, omega arith, tt)
+
 note-group-requires : tie.Need-note-group-requires Inv-loop μ-loop
 note-group-requires c κs =
+    let at-loop = let known = c .before .before .before .before in known .before .before .before .before in
+    let q = at-loop .loop .inv .2 .going .last .rising in
+    (at-loop .loop .inv .2 .size, omega arith, omega arith)
+
+add-i-2 : tie.Need-add-i-2 Inv-loop μ-loop
+add-i-2 c = omega arith
+
+loop-less-2 : tie.Need-loop-less-2 Inv-loop μ-loop
+loop-less-2 c = omega arith
+
+loop-again-2 : tie.Need-loop-again-2 Inv-loop μ-loop
+loop-again-2 c =
+    let noted = c .before .before in
+    let high = noted .before .before in
+    let apart = high .before in
+    let known = apart .before .before in
+    let seen = known .before .before in
+    let at-loop = seen .before .before in
+    let start = at-loop .before .before .before .before in
+    let a = start .args in
+    let s = a .plate .now in
+    let l = at-loop .loop in
+    let v = known .c .given in
+    let r = seen .accept-rule in
+    let going = seen .before .loop-test .taken in
+    let more : 0 < a .n - l .i = omega (arith, going) in
+    let w = rw (v .1) at (r .ensures .1) in
+    let p = l .inv .2 .long in
+    let room : l .i < length (l .places) = omega (arith, going, p, start .pre .2 .room) in
+    let k = v .0 .1 .0 in
+    let next = v .0 .1 .1 .0 in
+    let other = apart .if1 .left in
+    let above : l .code < v .0 .0 = omega (arith, other, high .if3 .left) in
+    let in-order = sym (order-apart (l .code) (l .length) (v .0 .0) k (λ e. other (sym e))) ∙ lt-ltb (l .code) (v .0 .0) above in
+    let fits = order-good s (l .at) (l .code) (l .length) (r .result) (r .ensures .0) (v .0 .0) k next (v .1) in-order in
+    let told = noted .note-group .ensures in
+    let open-groups = set (l .groups) (l .code) (l .begun * half + l .i) in (
+      omega arith,
+      omega arith,
+      record {
+        long = length-set (l .places) (l .i) (l .at) ∙ p;
+        left = ap (λ (m : ℕ). rulesStep s next m (v .0 .0) k) {x = a .n - (l .i + 1)} {y = a .n - l .i - 1} (omega arith)
+            ∙ rules-turn s (l .at) (a .n - l .i) (l .code) (l .length) more (Good (v .0 .0) k next) fits (v .0 .0) k next refl
+            ∙ l .inv .2 .left;
+        size = ap length told ∙ length-set (l .groups) (l .code) (l .begun * half + l .i) ∙ l .inv .2 .size;
+        going = subst (λ (x : List ℕ). Going s (a .from) (l .i + 1) next (l .i) (v .0 .0) (set (l .places) (l .i) (l .at)) (set x (v .0 .0) (l .i * half + (l .i + 1)))) (sym told)
+            (going-turn s (a .from) (l .i) (l .at) (l .begun) (l .code) (l .places) open-groups (l .inv .2 .going) (l .length) (Good (v .0 .0) k next) fits (v .0 .0) k next refl
+            (l .i) (inr (other, refl)) (omega arith) room);
+      },
+    )
+
+note-group-requires-2 : tie.Need-note-group-requires-2 Inv-loop μ-loop
+note-group-requires-2 c κs =
     let at-loop = c .before .before in
     let q = at-loop .loop .inv .2 .going .last .rising in
     (at-loop .loop .inv .2 .size, omega arith, omega arith)
 
-same-length-3 : tie.Need-same-length-3 Inv-loop μ-loop
-same-length-3 c =
+same-length-7 : tie.Need-same-length-7 Inv-loop μ-loop
+same-length-7 c =
     let noted = c .before .before in
     let at-loop = noted .before .before .before in
     at-loop .loop .inv .2 .long
 
-same-length-4 : tie.Need-same-length-4 Inv-loop μ-loop
-same-length-4 c =
+same-length-8 : tie.Need-same-length-8 Inv-loop μ-loop
+same-length-8 c =
     let noted = c .before .before in
     let at-loop = noted .before .before .before in
     let start = at-loop .before .before .before .before in
     let l = at-loop .loop in
-    ap length (noted .note-group .ensures) ∙ length-set (l .groups) (l .code) (l .begun * half + start .args .n) ∙ l .inv .2 .size
+    ap length (noted .note-group2 .ensures) ∙ length-set (l .groups) (l .code) (l .begun * half + start .args .n) ∙ l .inv .2 .size
     ∙ sym (ap length (start .pre .2 .clear) ∙ length-replicate {A = ℕ} notedCharacters 0)
 
-returns-2 : tie.Need-returns-2 Inv-loop μ-loop
-returns-2 c =
+returns-4 : tie.Need-returns-4 Inv-loop μ-loop
+returns-4 c =
     let noted = c .before .before in
     let ended = noted .before .before in
     let at-loop = ended .before in
@@ -160,7 +290,7 @@ returns-2 c =
     let all : l .i ≡ a .n = omega arith in (
       sym (rules-end (a .plate .now) (l .at) (a .n - l .i) (l .code) (l .length) (omega arith)) ∙ l .inv .2 .left,
       omega arith,
-      subst (λ (x : List ℕ). NotedFrom (a .plate .now) (a .from) (a .n) (l .places) x) (sym (noted .note-group .ensures))
+      subst (λ (x : List ℕ). NotedFrom (a .plate .now) (a .from) (a .n) (l .places) x) (sym (noted .note-group2 .ensures))
           (subst (λ (k : ℕ). NotedFrom (a .plate .now) (a .from) k (l .places) (set (l .groups) (l .code) (l .begun * half + k))) all (l .inv .2 .going .noted)),
     )
 
@@ -180,11 +310,20 @@ accept-rules-spec =
     cast-places
     mul-places
     slice-write-places
-    next-group-requires
+    same-length-3
+    same-length-4
+    returns-2
     add-i
     loop-less
     loop-again
+    same-length-5
+    same-length-6
+    returns-3
     note-group-requires
-    same-length-3
-    same-length-4
-    returns-2)
+    add-i-2
+    loop-less-2
+    loop-again-2
+    note-group-requires-2
+    same-length-7
+    same-length-8
+    returns-4)

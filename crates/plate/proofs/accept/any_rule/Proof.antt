@@ -1,9 +1,9 @@
--- `plate::accept::any_rule` meets its contract: pattern, order and fields are tested in turn, and each refusal is the definition's
--- (Accepted.rule-pattern, rule-order, rule-fields). Assumes nothing.
+-- `plate::accept::any_rule` meets its contract: pattern and fields are tested in turn, and each refusal is the definition's
+-- (Accepted.rule-pattern, rule-fields). Assumes nothing.
 use Prim.Native.Nat.{_+_}
 use native.Mathlib.Omega.{arith}
 use borrow.Author.Needs.{needs}
-use Rattle.plate.proofs.Accepted.{pattern-few, rule-pattern, rule-order, rule-fields, rule-good}
+use Rattle.plate.proofs.Accepted.{pattern-few, rule-pattern, rule-fields, rule-good}
 use Rattle.plate.proofs.accept.any_rule.Statement.{statement}
 use Rattle.plate.proofs.accept.any_rule.Tie as tie
 
@@ -27,13 +27,10 @@ returns c =
     let at-accept-pattern = c .before .before in
     let at-size = at-accept-pattern .before in
     let a = at-size .before .before .args in (
-      rule-pattern (a .plate .now) (a .at) (a .c) (a .n) (at-size .size .result) (at-size .size .ensures .0) (at-accept-pattern .accept-pattern .result)
+      rule-pattern (a .plate .now) (a .at) (at-size .size .result) (at-size .size .ensures .0) (at-accept-pattern .accept-pattern .result)
           (at-accept-pattern .accept-pattern .ensures) (c .enum-told .given .1),
       omega arith,
     )
-
-in-order-requires : tie.Need-in-order-requires
-in-order-requires c κs = search needs
 
 add-accept-fields : tie.Need-add-accept-fields
 add-accept-fields c = search needs
@@ -56,16 +53,14 @@ enum-told-2 c = search needs
 returns-2 : tie.Need-returns-2
 returns-2 c =
     let at-accept-fields = c .before .before in
-    let at-if1 = at-accept-fields .before in
-    let at-in-order = at-if1 .before in
-    let at-code = at-in-order .before .before in
+    let at-code = at-accept-fields .before .before in
     let at-accept-pattern = at-code .before .before in
     let at-size = at-accept-pattern .before in
     let a = at-size .before .before .args in
     let v = at-code .code .given in (
-      rule-fields (a .plate .now) (a .at) (a .c) (a .n) (at-size .size .result) (at-size .size .ensures .0) (at-accept-pattern .accept-pattern .result)
+      rule-fields (a .plate .now) (a .at) (at-size .size .result) (at-size .size .ensures .0) (at-accept-pattern .accept-pattern .result)
           (at-accept-pattern .accept-pattern .ensures)
-          (v .0 .0) (v .1) (at-in-order .in-order .result) (at-in-order .in-order .ensures) (at-if1 .if1 .taken) (at-accept-fields .accept-fields .result)
+          (v .0 .0) (v .1) (at-accept-fields .accept-fields .result)
           (at-accept-fields .accept-fields .ensures .0) (c .enum-told2 .given .1),
       omega arith,
     )
@@ -74,9 +69,7 @@ returns-3 : tie.Need-returns-3
 returns-3 c =
     let at-next = c .before in
     let at-accept-fields = at-next .before .before in
-    let at-if1 = at-accept-fields .before in
-    let at-in-order = at-if1 .before in
-    let at-code = at-in-order .before .before in
+    let at-code = at-accept-fields .before .before in
     let at-accept-pattern = at-code .before .before in
     let at-size = at-accept-pattern .before in
     let a = at-size .before .before .args in
@@ -84,24 +77,10 @@ returns-3 c =
     let x = at-next .next .given in
     let b = rw (x .1) at (at-accept-fields .accept-fields .ensures .1) in
     let n = pattern-few (a .plate .now) (at-size .size .result) (a .at + 5) (at-accept-pattern .accept-pattern .result) (at-accept-pattern .accept-pattern .ensures) (v .0 .0) (v .1) in (
-      rule-good (a .plate .now) (a .at) (a .c) (a .n) (at-size .size .result) (at-size .size .ensures .0) (at-accept-pattern .accept-pattern .result)
+      rule-good (a .plate .now) (a .at) (at-size .size .result) (at-size .size .ensures .0) (at-accept-pattern .accept-pattern .result)
           (at-accept-pattern .accept-pattern .ensures)
-          (v .0 .0) (v .1) (at-in-order .in-order .result) (at-in-order .in-order .ensures) (at-if1 .if1 .taken) (at-accept-fields .accept-fields .result)
+          (v .0 .0) (v .1) (at-accept-fields .accept-fields .result)
           (at-accept-fields .accept-fields .ensures .0) (x .0 .0) (x .1),
-      omega arith,
-    )
-
-returns-4 : tie.Need-returns-4
-returns-4 c =
-    let at-in-order = c .before in
-    let at-code = at-in-order .before .before in
-    let at-accept-pattern = at-code .before .before in
-    let at-size = at-accept-pattern .before in
-    let a = at-size .before .before .args in
-    let v = at-code .code .given in (
-      rule-order (a .plate .now) (a .at) (a .c) (a .n) (at-size .size .result) (at-size .size .ensures .0) (at-accept-pattern .accept-pattern .result)
-          (at-accept-pattern .accept-pattern .ensures)
-          (v .0 .0) (v .1) (at-in-order .in-order .result) (at-in-order .in-order .ensures) (c .if1 .left),
       omega arith,
     )
 
@@ -115,7 +94,6 @@ any-rule-spec =
     enum-known-code
     enum-told
     returns
-    in-order-requires
     add-accept-fields
     mul-accept-fields
     add-accept-fields-2
@@ -123,5 +101,4 @@ any-rule-spec =
     enum-known-next
     enum-told-2
     returns-2
-    returns-3
-    returns-4)
+    returns-3)
