@@ -1,6 +1,6 @@
 -- Shapes in front of a window: a range of its numbers is a shape of what stands at its place. Assumes nothing.
 use Prim.Native.Nat.{ℕ, _+_, _-_, _*_, _/_, _%_, _^_, _<_, _≤_}
-use mathlib.Core.Path.{_≡_, refl, sym, _∙_, ap, subst}
+use mathlib.Core.Path.{_≡_, refl, sym, _∙_, ap, ap₂, subst}
 use mathlib.Core.Bool.{true}
 use mathlib.Core.List.{List}
 use native.Mathlib.Omega.{arith}
@@ -14,7 +14,7 @@ use Rattle.plate.specs.Bits.{numberAt}
 use Rattle.plate.specs.Plate.{goodField, nonzeroScalar}
 use Rattle.plate.specs.Read.{fieldAt, fieldEnd}
 use Rattle.plate.specs.Window.{Holds}
-use Rattle.plate.specs.Plain.{Takes}
+use Rattle.plate.specs.Plain.{Takes, Passes, Ascii}
 use Rattle.plate.specs.Answers.{bytesAt, frontOf, goodText, firstOf, lastDigits, alternativeStep, alternativesStep, fieldStep, fieldsStep, keyBehind}
 use Rattle.plate.specs.declared.Front.the-variants as FrontIs
 use Rattle.plate.specs.declared.First.the-variants as FirstIs
@@ -174,3 +174,23 @@ unfolding Left
 left-none w n bits left all none counted some few = λ _ s at held.
     sym (alternatives-end s left (at + bits) none) ∙ all s at held
     ∙ field-is s at n (counted ∙ front s at 48 w held (omega arith) 4 (omega arith)) some (omega arith)
+
+-- ---- bytes that pass
+
+pub pass-one : (w : ℕ) → Ascii w → Passes 1 w
+pass-one w range s at n some held =
+    let byte = w / 72057594037927936 in
+    let low = range .0 in
+    let high = range .1 in
+    let is-byte : byte ≡ numberAt s at 8 = front s at 8 w held (omega arith) 8 (omega arith) in
+    text-turn s n at some (FrontIs.Is byte 1) (ascii-is s n at some byte is-byte (omega arith) (λ e. omega arith)) byte 1 refl
+
+pub pass-both : (j k w : ℕ) → j + k ≤ 8 → Passes j w → Passes k (w * 2 ^ (8 * j) % 2 ^ 64) → Passes (j + k) w
+pass-both j k w few first second s at n some held =
+    let less : n - (j + k) ≡ n - j - k = omega arith in
+    let further : at + 8 * (j + k) ≡ at + 8 * j + 8 * k = omega arith in
+    let bits : 8 * (j + k) ≤ 64 = omega arith in
+    let behind : 8 * j + 8 * k ≤ 8 * (j + k) = omega arith in
+    ap₂ (λ (m p : ℕ). goodText (bytesAt s m p)) less further
+    ∙ second s (at + 8 * j) (n - j) (omega arith) (behind-held s at (8 * (j + k)) w (8 * j) (8 * k) held bits behind)
+    ∙ first s at n (omega arith) (front s at (8 * (j + k)) w held bits (8 * j) (omega arith))

@@ -8,7 +8,7 @@ ghost use lib.ListN.{length};
 ghost use Rattle.plate.specs.Most.{farthest};
 ghost use Rattle.plate.specs.Window.{Holds};
 ghost use Rattle.plate.specs.Answers.{bytesAt, goodText, firstOf, alternativeStep, fieldStep, fieldsStep, keyBehind};
-ghost use Rattle.plate.specs.Plain.{Takes, Ascii};
+ghost use Rattle.plate.specs.Plain.{Takes, Passes, Ascii};
 ghost use Rattle.plate.specs.declared.Step.the-variants.{To};
 ghost use Rattle.plate.specs.declared.First.the-variants.{Code};
 use super::CHARACTER_BITS;
@@ -23,6 +23,28 @@ fn is_ascii(w: u64) -> bool
         return false;
     }
     w < 0x8000000000000000
+}
+
+// So do two.
+fn two_ascii(w: u64) -> bool
+    ensures { λ r. ⌜ (r ≡ true → Passes 2 w) ⌝ }
+{
+    if is_ascii(w) {
+        return is_ascii(w << 8);
+    }
+    false
+}
+
+// So do five.
+pub(crate) fn five_ascii(w: u64) -> bool
+    ensures { λ r. ⌜ (r ≡ true → Passes 5 w) ⌝ }
+{
+    if is_ascii(w) {
+        if two_ascii(w << 8) {
+            return two_ascii(w << 24);
+        }
+    }
+    false
 }
 
 // So do n such bytes. The loop ends inside its turn: with a test in front LLVM tests twice.

@@ -21,11 +21,14 @@ accept-in-requires c κs =
     let tested = c .before .before in
     let read = tested .before in
     let start = read .before .before .before .before in
-    let s = start .args .plate .now in
-    (omega arith, omega arith, record {
-      room = subst (λ (e : Edition). e .most ≤ length (start .args .places .now)) (tells-2 s (read .bits .result) (read .bits .ensures .0) (tested .if1 .taken)) (start .pre .0);
-      clear = start .pre .1;
-    })
+    let s = start .args .plate .now in (
+      omega arith,
+      omega arith,
+      record {
+        room = subst (λ (e : Edition). e .most ≤ length (start .args .places .now)) (tells-2 s (read .bits .result) (read .bits .ensures .0) (tested .if1 .taken)) (start .pre .0);
+        clear = start .pre .1;
+      },
+    )
 
 same-length : tie.Need-same-length
 same-length c = search needs
@@ -46,11 +49,14 @@ accept-in-requires-2 c κs =
     let tested = c .before .before in
     let read = tested .before in
     let start = read .before .before .before .before in
-    let s = start .args .plate .now in
-    (omega arith, omega arith, record {
-      room = subst (λ (e : Edition). e .most ≤ length (start .args .places .now)) (tells-1 s (read .bits .result) (read .bits .ensures .0) (tested .if1 .left)) (start .pre .0);
-      clear = start .pre .1;
-    })
+    let s = start .args .plate .now in (
+      omega arith,
+      omega arith,
+      record {
+        room = subst (λ (e : Edition). e .most ≤ length (start .args .places .now)) (tells-1 s (read .bits .result) (read .bits .ensures .0) (tested .if1 .left)) (start .pre .0);
+        clear = start .pre .1;
+      },
+    )
 
 same-length-3 : tie.Need-same-length-3
 same-length-3 c = search needs
