@@ -106,27 +106,6 @@ wrong false c n k e f = refl
 
 -- ---- digits
 
-pub digits-end : (n v : ℕ) → n ≤ 0 → lastDigits n v ≡ true
-digits-end zero v h = refl
-digits-end (suc n) v h = absurd (omega arith)
-
-module _ (n v : ℕ) where
-  pub digits-stop : 0 < n → 9 < v % 16 → lastDigits n v ≡ false
-  digits-stop h g = go n h
-    where
-      go : (k : ℕ) → 0 < k → lastDigits k v ≡ false
-      go zero i = absurd (omega arith)
-      go (suc k) i = and-left-false (leb (v % 16) 9) (lastDigits k (v / 16)) (lt-leb (v % 16) 9 g)
-
-  pub digits-turn : 0 < n → v % 16 ≤ 9 → lastDigits (n - 1) (v / 16) ≡ lastDigits n v
-  digits-turn h g = go n h
-    where
-      go : (k : ℕ) → 0 < k → lastDigits (k - 1) (v / 16) ≡ lastDigits k v
-      go zero i = absurd (omega arith)
-      go (suc k) i =
-          ap (λ (m : ℕ). lastDigits m (v / 16)) {x = suc k - 1} {y = k} (omega arith)
-          ∙ sym (and-holds (leb (v % 16) 9) (lastDigits k (v / 16)) (le-leb (v % 16) 9 g))
-
 -- an ASCII digit, by its four bits
 four-bits : (d : ℕ) → digit (48 + d) ≡ leb d 9
 four-bits d = by-order (digit (48 + d) ≡ leb d 9) 9 d over within
