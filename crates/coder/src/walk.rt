@@ -1,13 +1,14 @@
 // From the characters of a name to the uses of rules: at each character the rule taken, and its field.
 ghost use mathlib.Core.Path.{_≡_};
 ghost use mathlib.Core.Bool.{true, false};
-ghost use mathlib.Core.List.{[]};
-ghost use Prim.Native.Nat.{_<_, _≤_};
-ghost use lib.ListN.{length, drop};
-ghost use Rattle.plate.specs.Read.{plateIn, accepted};
+ghost use mathlib.Core.List.{List, []};
+ghost use Prim.Native.Nat.{ℕ, _<_, _≤_};
+ghost use lib.ListN.{length, drop, getD};
+ghost use Rattle.laws.specs.Lists.{begins};
+ghost use Rattle.plate.specs.Read.{plateIn, accepted, ruleAt};
 ghost use Rattle.plate.specs.Noted.{Noted};
 ghost use Rattle.plate.specs.Stands.{heldField};
-ghost use Rattle.coder.specs.Walk.{vowelFollows, forced};
+ghost use Rattle.coder.specs.Walk.{letters, vowelFollows, forced};
 ghost use Rattle.coder.specs.Held.{hitAt, FoundIs, beforeOf, whichField, NextIs};
 use super::Found;
 use super::NextUse;
@@ -15,8 +16,41 @@ use chars::Next;
 use chars::letters::is_vowel;
 use plate::Alternative;
 use plate::Field;
+use plate::bits::bits;
 use plate::note::group_of;
 use plate::read;
+
+// The second of some characters; 0 where there is none.
+fn second_of(rest: &[u32]) -> u32
+    ensures { λ r. ⌜ r ≡ getD (now (rest .entry)) 1 0 ⌝ }
+{
+    if 1 < rest.len() {
+        return rest[1];
+    }
+    0
+}
+
+// The rule at a place does not begin the characters, by its pattern's second byte alone: so most rules of a group are passed. The length and the first two
+// bytes, which must be ASCII, are one read.
+fn second_differs(plate: &[u8], here: usize, second: u32) -> bool
+    ensures { λ r. ⌜ (r ≡ true → (rest : List ℕ) → second ≡ getD rest 1 0 → begins (letters (ruleAt (now (plate .entry)) here)) rest ≡ false) ⌝ }
+{
+    let front = bits(plate, here, 21);
+    if front < 0x20000 {
+        return false;
+    }
+    if 0x8000 <= front % 0x10000 {
+        return false;
+    }
+    let byte = front % 0x100;
+    if 0x80 <= byte {
+        return false;
+    }
+    if byte == second {
+        return false;
+    }
+    true
+}
 
 // "Otherwise take the longest pattern that begins here; of equal patterns the first. The search stops at that rule." Only the rules of the character's
 // group are looked at. Within a first character patterns stand longest first, so the first that fits is taken.
@@ -25,6 +59,7 @@ fn search(plate: &[u8], places: &[u32], groups: &[u32], rest: &[u32]) -> Found
     ensures { λ r. ⌜ FoundIs (now (plate .entry)) (hitAt false (plateIn (now (plate .entry)) .rules) (now (rest .entry))) r ⌝ }
 {
     let group = group_of(plate, places, groups, rest[0]);
+    let second = second_of(rest);
     let mut i = group.first;
     'rules: loop {
         if group.behind <= i {
@@ -32,6 +67,9 @@ fn search(plate: &[u8], places: &[u32], groups: &[u32], rest: &[u32]) -> Found
         }
         let here = places[i] as usize;
         i += 1;
+        if second_differs(plate, here, second) {
+            continue 'rules;
+        }
         let n = read::pattern_length(plate, here);
         let mut k: usize = 0;
         let mut j: usize = 0;

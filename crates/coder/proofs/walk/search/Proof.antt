@@ -18,18 +18,18 @@ use Rattle.coder.proofs.walk.search.Statement.{statement}
 use Rattle.coder.proofs.walk.search.Tie as tie
 
 abbrev Inv-bytes : tie.InvT-bytes
-Inv-bytes plate places groups rest group i here n k₀ j₀ k j =
+Inv-bytes plate places groups rest group second i here n k₀ j₀ k j =
     (j ≤ k) × (k ≤ n) × Mark plate here k × (j + length (lettersFrom plate here k) ≡ length (letters (ruleAt plate here)))
     × (begins (lettersFrom plate here k) (drop j rest) ≡ begins (letters (ruleAt plate here)) rest)
 
 abbrev μ-bytes : tie.MeasureT-bytes
-μ-bytes plate places groups rest group i here n k₀ j₀ k j = n - k
+μ-bytes plate places groups rest group second i here n k₀ j₀ k j = n - k
 
 abbrev Inv-rules : tie.InvT-rules
-Inv-rules plate places groups rest group i₀ i = Left plate places rest (group .first) (group .behind) i
+Inv-rules plate places groups rest group second i₀ i = Left plate places rest (group .first) (group .behind) i
 
 abbrev μ-rules : tie.MeasureT-rules
-μ-rules plate places groups rest group i₀ i = group .behind - i
+μ-rules plate places groups rest group second i₀ i = group .behind - i
 
 -- ---- what was lent, and the rule whose turn it is, seen from behind the call of group_of and from behind the loop's test
 
@@ -42,40 +42,46 @@ places-of g = let known = g .before .before .before in known .before .before .be
 abbrev rest-of : tie.After-group-of Inv-bytes μ-bytes Inv-rules μ-rules → List ℕ
 rest-of g = let known = g .before .before .before in known .before .before .before .args .rest .now
 
+abbrev group-at : tie.Else1 Inv-bytes μ-bytes Inv-rules μ-rules → tie.After-group-of Inv-bytes μ-bytes Inv-rules μ-rules
+group-at e = e .before .before .before .before
+
+abbrev turn : tie.After-pattern-length Inv-bytes μ-bytes Inv-rules μ-rules → tie.Else1 Inv-bytes μ-bytes Inv-rules μ-rules
+turn p = p .before .before .before .before
+
 abbrev place-of : tie.Else1 Inv-bytes μ-bytes Inv-rules μ-rules → ℕ
-place-of e = getD (places-of (e .before .before .before)) (e .before .before .rules .i) 0
+place-of e = getD (places-of (group-at e)) (e .before .before .rules .i) 0
 
 abbrev rule-of : tie.Else1 Inv-bytes μ-bytes Inv-rules μ-rules → List ℕ
-rule-of e = letters (ruleAt (plate-of (e .before .before .before)) (place-of e))
+rule-of e = letters (ruleAt (plate-of (group-at e)) (place-of e))
 
 -- It has a place, and stands there.
-room : (e : tie.Else1 Inv-bytes μ-bytes Inv-rules μ-rules) → e .before .before .rules .i < length (places-of (e .before .before .before))
+room : (e : tie.Else1 Inv-bytes μ-bytes Inv-rules μ-rules) → e .before .before .rules .i < length (places-of (group-at e))
 room e =
-    let g = e .before .before .before in
+    let g = group-at e in
     let p = let known = g .before .before .before in known .before .before .before .pre in
     let r = g .group-of .result in
     has-place (plate-of g) (places-of g) (rest-of g) (r .first) (r .behind) (p .0) (p .1 .0) (g .group-of .ensures) (p .2) (e .before .before .rules .i) (e .if1 .left)
 
-here : (e : tie.Else1 Inv-bytes μ-bytes Inv-rules μ-rules) → Here (plate-of (e .before .before .before)) (place-of e)
+here : (e : tie.Else1 Inv-bytes μ-bytes Inv-rules μ-rules) → Here (plate-of (group-at e)) (place-of e)
 here e =
-    let g = e .before .before .before in
+    let g = group-at e in
     let p = let known = g .before .before .before in known .before .before .before .pre in
     let r = g .group-of .result in
     stands (plate-of g) (places-of g) (rest-of g) (r .first) (r .behind) (p .0) (p .1 .0) (g .group-of .ensures) (p .2) (e .before .before .rules .i) (e .if1 .left)
 
 -- It does not begin the characters: the search goes on behind it.
-missed : (e : tie.Else1 Inv-bytes μ-bytes Inv-rules μ-rules) → begins (rule-of e) (rest-of (e .before .before .before)) ≡ false
-    → let g = e .before .before .before in Left (plate-of g) (places-of g) (rest-of g) (g .group-of .result .first) (g .group-of .result .behind) (e .before .before .rules .i + 1)
+missed : (e : tie.Else1 Inv-bytes μ-bytes Inv-rules μ-rules) → begins (rule-of e) (rest-of (group-at e)) ≡ false
+    → let g = group-at e in Left (plate-of g) (places-of g) (rest-of g) (g .group-of .result .first) (g .group-of .result .behind) (e .before .before .rules .i + 1)
 missed e b =
-    let g = e .before .before .before in
+    let g = group-at e in
     let p = let known = g .before .before .before in known .before .before .before .pre in
     let l = e .before .before .rules in
     let r = g .group-of .result in
     left-miss (plate-of g) (places-of g) (rest-of g) (r .first) (r .behind) (p .0) (p .1 .0) (g .group-of .ensures) (p .2) (l .i) (e .if1 .left) (l .inv) b
 
 -- More of the pattern is left.
-short : (c : tie.Else2 Inv-bytes μ-bytes Inv-rules μ-rules)
-    → let e = c .before .before .before .before in c .before .bytes .k < length (patternAt (plate-of (e .before .before .before)) (place-of e))
+short : (c : tie.Else3 Inv-bytes μ-bytes Inv-rules μ-rules)
+    → let e = turn (c .before .before) in c .before .bytes .k < length (patternAt (plate-of (group-at e)) (place-of e))
 short c = let l = c .before .before .pattern-length .ensures in omega arith
 
 -- ---- the needs
@@ -86,11 +92,15 @@ shared-slice-read-group-of c = let known = c .before .before in known .before .b
 group-of-requires : tie.Need-group-of-requires Inv-bytes μ-bytes Inv-rules μ-rules
 group-of-requires c κs = let p = let known = c .before .before in known .before .before .before .pre in (p .0, p .1)
 
+second-of-requires : tie.Need-second-of-requires Inv-bytes μ-bytes Inv-rules μ-rules
+second-of-requires c κs = tt
+
 rules-holds : tie.Need-rules-holds Inv-bytes μ-bytes Inv-rules μ-rules
 rules-holds c =
-    let p = let known = c .before .before .before in known .before .before .before .pre in
-    let r = c .group-of .result in
-    left-start (plate-of c) (places-of c) (rest-of c) (r .first) (r .behind) (p .0) (p .1 .0) (c .group-of .ensures) (p .2)
+    let g = c .before in
+    let p = let known = g .before .before .before in known .before .before .before .pre in
+    let r = g .group-of .result in
+    left-start (plate-of g) (places-of g) (rest-of g) (r .first) (r .behind) (p .0) (p .1 .0) (g .group-of .ensures) (p .2)
 
 mul-here : tie.Need-mul-here Inv-bytes μ-bytes Inv-rules μ-rules
 mul-here c = let r = room c in omega arith
@@ -104,13 +114,29 @@ cast-here c = record { fits = let n = here (c .before) .near in omega arith }
 add-i : tie.Need-add-i Inv-bytes μ-bytes Inv-rules μ-rules
 add-i c = let r = room (c .before) in omega arith
 
+second-differs-requires : tie.Need-second-differs-requires Inv-bytes μ-bytes Inv-rules μ-rules
+second-differs-requires c κs = tt
+
+rules-less : tie.Need-rules-less Inv-bytes μ-bytes Inv-rules μ-rules
+rules-less c =
+    let e = c .before .before .before in
+    omega (arith, e .if1 .left)
+
+-- Its second character is another.
+rules-again : tie.Need-rules-again Inv-bytes μ-bytes Inv-rules μ-rules
+rules-again c =
+    let tested = c .before in
+    let e = tested .before .before in
+    let second = e .before .before .before .second-of .ensures in
+    missed e (tested .second-differs .ensures (c .if2 .taken) (rest-of (group-at e)) second)
+
 pattern-length-requires : tie.Need-pattern-length-requires Inv-bytes μ-bytes Inv-rules μ-rules
-pattern-length-requires c κs = here (c .before)
+pattern-length-requires c κs = here (c .before .before .before)
 
 bytes-holds : tie.Need-bytes-holds Inv-bytes μ-bytes Inv-rules μ-rules
 bytes-holds c =
-    let e = c .before .before in
-    let g = e .before .before .before in
+    let e = turn c in
+    let g = group-at e in
     let s = plate-of g in
     let at = place-of e in (
       omega arith,
@@ -121,38 +147,38 @@ bytes-holds c =
     )
 
 pattern-char-requires : tie.Need-pattern-char-requires Inv-bytes μ-bytes Inv-rules μ-rules
-pattern-char-requires c κs = let e = c .before .before .before .before in (here e, c .before .bytes .inv .2, short c)
-
-rules-less : tie.Need-rules-less Inv-bytes μ-bytes Inv-rules μ-rules
-rules-less c =
-    let at-byte = c .before .before in
-    let e = at-byte .before .before .before .before in
-    omega (arith, e .if1 .left)
-
-rules-again : tie.Need-rules-again Inv-bytes μ-bytes Inv-rules μ-rules
-rules-again c =
-    let at-byte = c .before .before in
-    missed (at-byte .before .before .before .before) (sym (at-byte .before .bytes .inv .4) ∙ ends _ _ _ _ _ (c .before .pattern-char .ensures .front) (c .if3 .taken))
-
-mul-if4 : tie.Need-mul-if4 Inv-bytes μ-bytes Inv-rules μ-rules
-mul-if4 c = omega arith
-
-shared-slice-read-if4 : tie.Need-shared-slice-read-if4 Inv-bytes μ-bytes Inv-rules μ-rules
-shared-slice-read-if4 c = omega arith
+pattern-char-requires c κs = let e = turn (c .before .before) in (here e, c .before .bytes .inv .2, short c)
 
 rules-less-2 : tie.Need-rules-less-2 Inv-bytes μ-bytes Inv-rules μ-rules
 rules-less-2 c =
-    let at-char = c .before .before .before .before in
-    let at-length = at-char .before .before .before in
-    let e = at-length .before .before in
+    let at-byte = c .before .before in
+    let e = turn (at-byte .before .before) in
     omega (arith, e .if1 .left)
 
 rules-again-2 : tie.Need-rules-again-2 Inv-bytes μ-bytes Inv-rules μ-rules
 rules-again-2 c =
+    let at-byte = c .before .before in
+    missed (turn (at-byte .before .before)) (sym (at-byte .before .bytes .inv .4) ∙ ends _ _ _ _ _ (c .before .pattern-char .ensures .front) (c .if4 .taken))
+
+mul-if5 : tie.Need-mul-if5 Inv-bytes μ-bytes Inv-rules μ-rules
+mul-if5 c = omega arith
+
+shared-slice-read-if5 : tie.Need-shared-slice-read-if5 Inv-bytes μ-bytes Inv-rules μ-rules
+shared-slice-read-if5 c = omega arith
+
+rules-less-3 : tie.Need-rules-less-3 Inv-bytes μ-bytes Inv-rules μ-rules
+rules-less-3 c =
+    let at-char = c .before .before .before .before in
+    let at-length = at-char .before .before .before in
+    let e = turn at-length in
+    omega (arith, e .if1 .left)
+
+rules-again-3 : tie.Need-rules-again-3 Inv-bytes μ-bytes Inv-rules μ-rules
+rules-again-3 c =
     let more = c .before .before .before in
     let at-byte = more .before .before in
-    missed (at-byte .before .before .before .before)
-    (sym (at-byte .before .bytes .inv .4) ∙ differs _ _ _ _ _ (more .before .pattern-char .ensures .front) (more .if3 .left) (c .if4 .taken))
+    missed (turn (at-byte .before .before))
+    (sym (at-byte .before .bytes .inv .4) ∙ differs _ _ _ _ _ (more .before .pattern-char .ensures .front) (more .if4 .left) (c .if5 .taken))
 
 add-k : tie.Need-add-k Inv-bytes μ-bytes Inv-rules μ-rules
 add-k c =
@@ -192,21 +218,21 @@ bytes-again c =
     let e = ap length (r .front) in
     let l = at-byte .before .before .pattern-length .ensures in
     let m = i .3 in
-    (omega arith, omega arith, r .mark, omega arith, agrees _ _ _ _ _ (r .front) (more .if3 .left) (c .before .if4 .left) ∙ i .4)
+    (omega arith, omega arith, r .mark, omega arith, agrees _ _ _ _ _ (r .front) (more .if4 .left) (c .before .if5 .left) ∙ i .4)
 
 returns : tie.Need-returns Inv-bytes μ-bytes Inv-rules μ-rules
 returns c =
     let done = c .before in
     let l = done .before .before .rules in
-    let g = done .before .before .before in
+    let g = done .before .before .before .before in
     let p = let known = g .before .before .before in known .before .before .before .pre in
     let r = g .group-of .result in
     left-end (plate-of g) (places-of g) (rest-of g) (r .first) (r .behind) (p .0) (p .1 .0) (g .group-of .ensures) (p .2) (l .i) (done .if1 .taken) (l .inv)
 
 returns-2 : tie.Need-returns-2 Inv-bytes μ-bytes Inv-rules μ-rules
 returns-2 c =
-    let e = c .before .before .before .before in
-    let g = e .before .before .before in
+    let e = turn (c .before .before) in
+    let g = group-at e in
     let p = let known = g .before .before .before in known .before .before .before .pre in
     let turn = e .before .before .rules in
     let found = g .group-of .result in
@@ -238,20 +264,24 @@ search-spec =
     μ-rules
     shared-slice-read-group-of
     group-of-requires
+    second-of-requires
     rules-holds
     mul-here
     shared-slice-read-here
     cast-here
     add-i
+    second-differs-requires
+    rules-less
+    rules-again
     pattern-length-requires
     bytes-holds
     pattern-char-requires
-    rules-less
-    rules-again
-    mul-if4
-    shared-slice-read-if4
     rules-less-2
     rules-again-2
+    mul-if5
+    shared-slice-read-if5
+    rules-less-3
+    rules-again-3
     add-k
     add-j
     bytes-less
