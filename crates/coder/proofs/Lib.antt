@@ -12,3 +12,4 @@ pub mod Wider
 pub mod Answers
 pub mod Only
 pub mod Demands
+pub mod Single

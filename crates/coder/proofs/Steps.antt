@@ -14,7 +14,7 @@ use Rattle.branches.specs.Branches.{Branch, Use, start, step}
 use Rattle.branches.specs.Room.{outcome}
 use Rattle.branches.specs.Held.{useOf, branchesOf, Answered}
 use Rattle.branches.specs.declared.Stepped.{Stepped}
-use Rattle.branches.proofs.Room.{outcome-over, outcome-end, answer-over, answer-fits}
+use Rattle.branches.proofs.Room.{outcome-over, outcome-next, outcome-end, answer-over, answer-fits}
 use Rattle.coder.specs.Walk.{letters, vowelFollows, field, forced, Passed, walk, uses}
 use Rattle.coder.specs.Search.{Hit, brings}
 use Rattle.coder.specs.Search.Hit.{Taken, None}
@@ -127,3 +127,13 @@ module _ (rs : List Rule) (name : List ℕ) (most room : ℕ) where
       used-on h =
           let f = answer-fits room (useOf (r .field) (r .anyway)) rest bs answer (l .fits) g h in
           record { fits = f .0; left = sym (ap (λ (us : List Use). outcome room us bs) (next true e) ∙ f .1) ∙ l .left }
+
+    -- There is one, and the branches that it makes of these, no more than these, are known.
+    pub used-by : r .found ≡ true → (to : List Branch) → to ≡ step (useOf (r .field) (r .anyway)) bs → length to ≤ length bs → Left rs name most room true (r .before) (r .at) to
+    used-by e to is few =
+        let h = l .fits in record {
+          fits = omega arith;
+          left = ap (outcome room (usesFrom rs name most true (r .before) (r .at))) is
+              ∙ sym (ap (λ (us : List Use). outcome room us bs) (next true e) ∙ outcome-next room (useOf (r .field) (r .anyway)) (usesFrom rs name most true (r .before) (r .at)) bs h)
+              ∙ l .left;
+        }

@@ -17,6 +17,19 @@ fn stepped(next: Branches, over: bool) -> Stepped
     Stepped { next, over }
 }
 
+// One branch meets one alternative.
+fn one_meets_one(branches: usize, alternatives: usize) -> bool
+    ensures { λ r. ⌜ (r ≡ true → (branches ≡ 1) × (alternatives ≡ 1)) ⌝ }
+{
+    if branches != 1 {
+        return false;
+    }
+    if alternatives != 1 {
+        return false;
+    }
+    true
+}
+
 // The branches along a name; or that they are more than there is room for, "at the start or after some step".
 pub(crate) fn run(
     plate: &[u8],
@@ -42,6 +55,16 @@ pub(crate) fn run(
             return stepped(bs, false);
         }
         let field = u.field;
+        // Most steps: the branch is extended where it stands. A step of any other kind copies all 64.
+        if one_meets_one(bs.count, field.count) {
+            let b = bs.items[0];
+            let a = field.alternatives[0];
+            bs.items[0] = branches::extend(b, a, u.anyway);
+            started = true;
+            before = u.before;
+            at = u.at;
+            continue;
+        }
         let s = branches::step(bs, field, u.anyway, room);
         if s.over {
             return s;

@@ -1,12 +1,13 @@
 -- `run::run` meets its contract. The loop keeps Steps.Left: what comes of the uses left and the branches held is what comes of all uses and the start. The
--- last use is Steps.done, a step Steps.used-over or Steps.used-on. Each use stands behind the one before, so the loop ends. Assumes nothing.
+-- last use is Steps.done, one branch that meets one alternative Steps.used-by with Single.extended, any other step Steps.used-over or Steps.used-on. Each use stands behind the one before, so the loop ends. Assumes nothing.
 use Prim.Native.Nat.{_-_, _≤_, _<_}
 use native.Mathlib.Omega.{arith}
 use borrow.Author.Tests.{not-true, not-false}
 use lib.ListN.{length}
 use Rattle.plate.specs.Read.{plateIn}
 use Rattle.branches.specs.Held.{BranchesOk, branchesOf}
-use Rattle.coder.proofs.Steps.{no-room, begin, done, used-over, used-on, Left}
+use Rattle.coder.proofs.Steps.{no-room, begin, done, used-by, used-over, used-on, Left}
+use Rattle.coder.proofs.Single.{branch-ok, only-ok, extended-ok, extended, as-many}
 use Rattle.coder.proofs.run.run.Statement.{statement}
 use Rattle.coder.proofs.run.run.Tie as tie
 
@@ -67,9 +68,79 @@ returns-2 c =
           (u .result) (u .ensures) (not-true (u .result .found) (tested .if2 .taken)),
     )
 
+-- ---- one branch meets one alternative: seen from behind the test for it
+
+abbrev next-of : tie.After-one-meets-one Inv-loop μ-loop → tie.After-next-use Inv-loop μ-loop
+next-of m = let tested = m .before .before in tested .before .before
+
+abbrev loop-of : tie.After-one-meets-one Inv-loop μ-loop → tie.At-loop Inv-loop μ-loop
+loop-of m = next-of m .before
+
+one-meets-one-requires : tie.Need-one-meets-one-requires Inv-loop μ-loop
+one-meets-one-requires c κs = tt
+
+element-copy-out-b : tie.Need-element-copy-out-b Inv-loop μ-loop
+element-copy-out-b c = let l = loop-of (c .before) .loop .inv .0 .long in omega arith
+
+element-copy-out-a : tie.Need-element-copy-out-a Inv-loop μ-loop
+element-copy-out-a c = let l = next-of (c .before .before) .next-use .ensures .ok .long in omega arith
+
+extend-requires : tie.Need-extend-requires Inv-loop μ-loop
+extend-requires c κs =
+    let taken = c .before .before in
+    let m = taken .before in
+    let l = loop-of m .loop in
+    let u = next-of m .next-use in
+    let ones = m .one-meets-one .ensures (taken .if3 .taken) in (
+      branch-ok (l .bs .items) (l .bs .count) (u .result .field) (l .inv .0) (u .ensures .ok) (ones .0) (ones .1),
+      only-ok (l .bs .items) (l .bs .count) (u .result .field) (l .inv .0) (u .ensures .ok) (ones .0) (ones .1),
+    )
+
+element-set-from-bs : tie.Need-element-set-from-bs Inv-loop μ-loop
+element-set-from-bs c =
+    let taken = c .before .before .before in
+    let l = loop-of (taken .before) .loop .inv .0 .long in
+    omega arith
+
+loop-less : tie.Need-loop-less Inv-loop μ-loop
+loop-less c =
+    let taken = c .before .before .before in
+    let m = taken .before in
+    let u = next-of m .next-use in
+    let tested = m .before .before in
+    let found = not-false (u .result .found) (tested .if2 .left) in
+    omega (arith, u .ensures .within found, u .ensures .behind found)
+
+loop-again : tie.Need-loop-again Inv-loop μ-loop
+loop-again c =
+    let taken = c .before .before .before in
+    let m = taken .before in
+    let at-loop = loop-of m in
+    let known = let begun = at-loop .before .before in begun .before in
+    let a = known .before .before .before .before .args in
+    let l = at-loop .loop in
+    let u = next-of m .next-use in
+    let tested = m .before .before in
+    let found = not-false (u .result .found) (tested .if2 .left) in
+    let ones = m .one-meets-one .ensures (taken .if3 .taken) in
+    let items = l .bs .items in
+    let n = l .bs .count in
+    let f = u .result .field in
+    let e = c .extend .result in
+    let ok = c .extend .ensures .0 in
+    let is = c .extend .ensures .1 in (
+      extended-ok items n f (l .inv .0) (u .ensures .ok) (ones .0) (ones .1) (u .result .anyway) e ok is,
+      used-by (plateIn (a .plate .now) .rules) (a .name .now) (a .most) (a .room) (l .started) (l .before) (l .at) (branchesOf (l .bs)) (l .inv .1) (u .result) (u .ensures) found
+          _ (extended items n f (l .inv .0) (u .ensures .ok) (ones .0) (ones .1) (u .result .anyway) e ok is)
+          (as-many items n f (l .inv .0) (u .ensures .ok) (ones .0) (ones .1) (u .result .anyway) e ok is),
+    )
+
+-- ---- any other step
+
 step-requires : tie.Need-step-requires Inv-loop μ-loop
 step-requires c κs =
-    let next = c .before .before .before in
+    let m = c .before in
+    let next = next-of m in
     let at-loop = next .before in
     let known = let begun = at-loop .before .before in begun .before in
     (at-loop .loop .inv .0, next .next-use .ensures .ok, known .before .before .before .before .pre .2)
@@ -77,7 +148,7 @@ step-requires c κs =
 returns-3 : tie.Need-returns-3 Inv-loop μ-loop
 returns-3 c =
     let met = c .before in
-    let tested = met .before .before in
+    let tested = let m = met .before .before in m .before .before in
     let next = tested .before .before in
     let at-loop = next .before in
     let known = let begun = at-loop .before .before in begun .before in
@@ -86,24 +157,24 @@ returns-3 c =
     let u = next .next-use in
     let found = not-false (u .result .found) (tested .if2 .left) in (
       met .step .ensures .1,
-      rw (c .if3 .taken) (used-over (plateIn (a .plate .now) .rules) (a .name .now) (a .most) (a .room) (l .started) (l .before) (l .at) (branchesOf (l .bs)) (l .inv .1)
-          (u .result) (u .ensures) found (met .step .result) (met .step .ensures) (c .if3 .taken)),
+      rw (c .if4 .taken) (used-over (plateIn (a .plate .now) .rules) (a .name .now) (a .most) (a .room) (l .started) (l .before) (l .at) (branchesOf (l .bs)) (l .inv .1)
+          (u .result) (u .ensures) found (met .step .result) (met .step .ensures) (c .if4 .taken)),
     )
 
-loop-less : tie.Need-loop-less Inv-loop μ-loop
-loop-less c =
+loop-less-2 : tie.Need-loop-less-2 Inv-loop μ-loop
+loop-less-2 c =
     let met = c .before .before in
-    let tested = met .before .before in
+    let tested = let m = met .before .before in m .before .before in
     let next = tested .before .before in
     let u = next .next-use in
     let found = not-false (u .result .found) (tested .if2 .left) in
     omega (arith, u .ensures .within found, u .ensures .behind found)
 
-loop-again : tie.Need-loop-again Inv-loop μ-loop
-loop-again c =
+loop-again-2 : tie.Need-loop-again-2 Inv-loop μ-loop
+loop-again-2 c =
     let kept = c .before in
     let met = kept .before in
-    let tested = met .before .before in
+    let tested = let m = met .before .before in m .before .before in
     let next = tested .before .before in
     let at-loop = next .before in
     let known = let begun = at-loop .before .before in begun .before in
@@ -113,7 +184,7 @@ loop-again c =
     let found = not-false (u .result .found) (tested .if2 .left) in (
       met .step .ensures .1,
       used-on (plateIn (a .plate .now) .rules) (a .name .now) (a .most) (a .room) (l .started) (l .before) (l .at) (branchesOf (l .bs)) (l .inv .1)
-          (u .result) (u .ensures) found (met .step .result) (met .step .ensures) (kept .if3 .left),
+          (u .result) (u .ensures) found (met .step .result) (met .step .ensures) (kept .if4 .left),
     )
 
 pub run-spec : {M : Type 1} → statement M
@@ -129,7 +200,14 @@ run-spec =
     next-use-requires
     stepped-requires-2
     returns-2
+    one-meets-one-requires
+    element-copy-out-b
+    element-copy-out-a
+    extend-requires
+    element-set-from-bs
+    loop-less
+    loop-again
     step-requires
     returns-3
-    loop-less
-    loop-again)
+    loop-less-2
+    loop-again-2)
