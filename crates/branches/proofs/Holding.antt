@@ -5,6 +5,7 @@ use mathlib.Core.Path.{_≡_, refl, sym, ap, subst, _∙_}
 use mathlib.Core.Bool.{false}
 use mathlib.Core.List.{List, [], _∷_, _++_, map, map-append}
 use native.Mathlib.Numerals.{add-one}
+use native.Mathlib.Nat.{le-refl}
 use native.Mathlib.Omega.{arith}
 use borrow.Author.Tests.{le-ltb}
 use lib.Dec.{ltb, lit≤}
@@ -78,6 +79,11 @@ pub record Filling (A : Type 0) (current next : List one.Branch) (m : ℕ) (made
 -- An array that is, from place m on, one whose first n stand, is blank behind both places.
 pub blank-behind : (items current : List one.Branch) (m n : ℕ) → ItemsOk current n → drop m items ≡ drop m current → BlankBehind items m n
 blank-behind items current m n ok e j h i = same-further items current m j h e ∙ blank-further current mostBranches n j blankBranch i (ok .clear)
+
+-- Where no fewer stand than stood in it, nothing need be blanked.
+pub all-ok : (items current : List one.Branch) (m n : ℕ) → FirstOk items m → ItemsOk current n → drop m items ≡ drop m current → n ≤ m → ItemsOk items m
+all-ok items current m n first ok e h =
+    record { small = first .small; long = first .long; each = first .each; clear = blank-behind items current m n ok e m (le-refl m) h }
 
 -- To begin with nothing is blanked.
 pub none-blanked : (items : List one.Branch) (from : ℕ) → drop from items ≡ replicate (from - from) blankBranch ++ drop from items

@@ -220,6 +220,17 @@ pub fn step(bs: Branches, f: Field, anyway: bool, room: usize) -> Stepped
             m += 1;
         }
     }
+    // Where none fewer stand than before, behind them all is blank.
+    if n <= m {
+        let all = Branches {
+            items: next,
+            count: m,
+        };
+        return Stepped {
+            next: all,
+            over: false,
+        };
+    }
     let items = cleared(next, m, n);
     let out = Branches {
         items: items,

@@ -13,7 +13,7 @@ use Rattle.branches.specs.Branches.{met, sameBranch}
 use Rattle.laws.specs.Once.{among, merge}
 use Rattle.branches.specs.Held.{branchOf, mostBranches, useOf}
 use Rattle.branches.specs.Branches as defined
-use Rattle.branches.proofs.Holding.{Filling, first-ok, none-ok, item-ok, items-count, store-ok, store-view, store-behind, blank-behind, fits}
+use Rattle.branches.proofs.Holding.{Filling, first-ok, none-ok, item-ok, items-count, store-ok, store-view, store-behind, blank-behind, all-ok, fits}
 use Rattle.branches.proofs.Steps.{still, among-turn, among-hit, among-end, begins, alternative-ok, nothing, opens, closes, done, dropped, kept, too-many}
 use Rattle.branches.proofs.step.Statement.{statement}
 use Rattle.branches.proofs.step.Tie as tie
@@ -235,19 +235,31 @@ loop-again c =
     let here = closes (useOf (s .args .t2) (s .args .anyway)) _ _ _ (s .args .t2) _ _ (c .alternatives-test .left) (i .2 .is) in
     (omega arith, i .1, record { first = i .2 .first; behind = i .2 .behind; is = here })
 
+-- No fewer stand than before.
+returns-2 : tie.Need-returns-2 Inv-loop2 μ-loop2 Inv-alternatives μ-alternatives Inv-loop μ-loop
+returns-2 c =
+    let ended = c .before in
+    let s = ended .before .before .before in
+    let l = ended .before .loop in
+    let i = l .inv in
+    let made = done (useOf (s .args .t2) (s .args .anyway)) _ _ _ _ _ (ended .loop-test .left) (i .2 .is) in
+    (fits _ _ _ _ (i .2 .first) (i .1) made, all-ok _ _ _ _ (i .2 .first) (s .pre .0) (i .2 .behind) (c .if3 .taken), made)
+
 cleared-requires :
     tie.Need-cleared-requires Inv-loop2 μ-loop2 Inv-alternatives μ-alternatives Inv-loop μ-loop
 cleared-requires c κs =
-    let i = c .before .loop .inv in
-    let p = c .before .before .before .pre .0 in
+    let ended = c .before in
+    let i = ended .before .loop .inv in
+    let p = ended .before .before .before .pre .0 in
     (i .2 .first, p .small, blank-behind _ _ _ _ p (i .2 .behind))
 
-returns-2 : tie.Need-returns-2 Inv-loop2 μ-loop2 Inv-alternatives μ-alternatives Inv-loop μ-loop
-returns-2 c =
-    let s = c .before .before .before .before in
-    let i = c .before .before .loop .inv in
+returns-3 : tie.Need-returns-3 Inv-loop2 μ-loop2 Inv-alternatives μ-alternatives Inv-loop μ-loop
+returns-3 c =
+    let ended = c .before .before in
+    let s = ended .before .before .before in
+    let i = ended .before .loop .inv in
     let r = c .cleared .ensures in
-    let made = done (useOf (s .args .t2) (s .args .anyway)) _ _ _ _ _ (c .before .loop-test .left) (i .2 .is) in
+    let made = done (useOf (s .args .t2) (s .args .anyway)) _ _ _ _ _ (ended .loop-test .left) (i .2 .is) in
     (fits _ _ _ _ (i .2 .first) (i .1) made, r .0, ap (map branchOf) (r .1) ∙ made)
 
 pub step-spec : {M : Type 1} → statement M
@@ -288,5 +300,6 @@ step-spec =
     add-i
     loop-less
     loop-again
+    returns-2
     cleared-requires
-    returns-2)
+    returns-3)
