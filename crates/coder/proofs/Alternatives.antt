@@ -93,7 +93,3 @@ taken-field r g which most h e =
     let eight = le-trans (take-short most f) (between-true 1 8 (length f) (b .0) .1) in
     let good = every-take isAlternative most f (b .1) in
     (subst FieldOk (sym e) (field-ok (take most f) eight good), ap alternativesOf e ∙ field-is (take most f) eight good)
-
--- A field without alternatives.
-pub none-held : FieldOk (heldField [])
-none-held = field-ok [] (omega arith) refl

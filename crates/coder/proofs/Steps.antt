@@ -9,7 +9,10 @@ use lib.ListN.{length, take, drop, getD, drop-of-length-le}
 use lib.Seq.{drop-cons, drop-drop}
 use Rattle.laws.specs.Lists.{every}
 use Rattle.plate.specs.Plate.{Rule, goodRule, ordered}
+use Rattle.plate.specs.Read.{ruleAt, plateIn}
 use Rattle.plate.specs.Stands.{fieldOf}
+use Rattle.plate.specs.Field.{alternativesOf}
+use Rattle.plate.specs.declared.Field.{Field}
 use Rattle.branches.specs.Branches.{Branch, Use, start, step}
 use Rattle.branches.specs.Room.{outcome}
 use Rattle.branches.specs.Held.{useOf, branchesOf, Answered}
@@ -18,7 +21,7 @@ use Rattle.branches.proofs.Room.{outcome-over, outcome-next, outcome-end, answe
 use Rattle.coder.specs.Walk.{letters, vowelFollows, field, forced, Passed, walk, uses}
 use Rattle.coder.specs.Search.{Hit, brings}
 use Rattle.coder.specs.Search.Hit.{Taken, None}
-use Rattle.coder.specs.Held.{hitAt, beforeOf, whichField, cutAll, usesFrom, NextIs}
+use Rattle.coder.specs.Held.{hitAt, beforeOf, whichField, cutAll, usesFrom, useAt, NextIs}
 use Rattle.coder.specs.declared.NextUse.{NextUse}
 use Rattle.coder.proofs.Hits.{search-brings}
 use Rattle.coder.proofs.Fields.{field-is}
@@ -98,7 +101,10 @@ pub record Left (rs : List Rule) (name : List ℕ) (most room : ℕ) (started : 
   pub fits : length bs ≤ room
   pub left : outcome room (usesFrom rs name most started before at) bs ≡ outcome room (cutAll most (uses rs name)) start
 
-module _ (rs : List Rule) (name : List ℕ) (most room : ℕ) where
+module _ (s name : List ℕ) (most room : ℕ) where
+  abbrev rs : List Rule
+  rs = plateIn s .rules
+
   -- No room: over at the start.
   pub no-room : room < 1 → outcome room (cutAll most (uses rs name)) start ≡ none
   no-room h = outcome-over room (cutAll most (uses rs name)) start h
@@ -106,34 +112,38 @@ module _ (rs : List Rule) (name : List ℕ) (most room : ℕ) where
   pub begin : (bs : List Branch) → 1 ≤ room → bs ≡ start → Left rs name most room false 0 0 bs
   begin bs h e = rw e (record { fits = h; left = ap (λ (us : List Use). outcome room us start) (from-start rs name most) })
 
-  module _ (started : Bool) (before at : ℕ) (bs : List Branch) (l : Left rs name most room started before at bs) (r : NextUse) (n : NextIs rs name most started before at r) where
+  module _ (started : Bool) (before at : ℕ) (bs : List Branch) (l : Left rs name most room started before at bs) (r : NextUse) (n : NextIs s name started before at r) where
     -- the uses left, by whether there is one
-    next : (t : Bool) → r .found ≡ t → usesFrom rs name most started before at ≡ cond t (useOf (r .field) (r .anyway) ∷ usesFrom rs name most true (r .before) (r .at)) []
-    next t e = n .is ∙ ap (λ (b : Bool). cond b (useOf (r .field) (r .anyway) ∷ usesFrom rs name most true (r .before) (r .at)) []) e
+    next : (t : Bool) → r .found ≡ t → usesFrom rs name most started before at ≡ cond t (useAt s most r ∷ usesFrom rs name most true (r .before) (r .at)) []
+    next t e = n .is most ∙ ap (λ (b : Bool). cond b (useAt s most r ∷ usesFrom rs name most true (r .before) (r .at)) []) e
 
     -- There is none: these are all branches.
     pub done : r .found ≡ false → outcome room (cutAll most (uses rs name)) start ≡ some bs
     done e = sym (l .left) ∙ ap (λ (us : List Use). outcome room us bs) (next false e) ∙ outcome-end room bs (l .fits)
 
-    -- There is one, and the branches meet it.
-    module _ (e : r .found ≡ true) (answer : Stepped) (g : Answered room (step (useOf (r .field) (r .anyway)) bs) answer) where
+    -- There is one, held in a field.
+    module _ (e : r .found ≡ true) (f : Field) (w : alternativesOf f ≡ take most (fieldOf (ruleAt s (r .place)) (r .which))) where
       abbrev rest : List Use
       rest = usesFrom rs name most true (r .before) (r .at)
 
-      pub used-over : answer .over ≡ true → outcome room (cutAll most (uses rs name)) start ≡ none
-      used-over h = sym (l .left) ∙ ap (λ (us : List Use). outcome room us bs) (next true e) ∙ answer-over room (useOf (r .field) (r .anyway)) rest bs answer (l .fits) g h
+      first : usesFrom rs name most started before at ≡ useOf f (r .anyway) ∷ rest
+      first = next true e ∙ (λ i. record { alternatives = sym w i; anyway = r .anyway } ∷ rest)
 
-      pub used-on : answer .over ≡ false → Left rs name most room true (r .before) (r .at) (branchesOf (answer .next))
-      used-on h =
-          let f = answer-fits room (useOf (r .field) (r .anyway)) rest bs answer (l .fits) g h in
-          record { fits = f .0; left = sym (ap (λ (us : List Use). outcome room us bs) (next true e) ∙ f .1) ∙ l .left }
+      -- The branches meet it.
+      module _ (answer : Stepped) (g : Answered room (step (useOf f (r .anyway)) bs) answer) where
+        pub used-over : answer .over ≡ true → outcome room (cutAll most (uses rs name)) start ≡ none
+        used-over h = sym (l .left) ∙ ap (λ (us : List Use). outcome room us bs) first ∙ answer-over room (useOf f (r .anyway)) rest bs answer (l .fits) g h
 
-    -- There is one, and the branches that it makes of these, no more than these, are known.
-    pub used-by : r .found ≡ true → (to : List Branch) → to ≡ step (useOf (r .field) (r .anyway)) bs → length to ≤ length bs → Left rs name most room true (r .before) (r .at) to
-    used-by e to is few =
-        let h = l .fits in record {
-          fits = omega arith;
-          left = ap (outcome room (usesFrom rs name most true (r .before) (r .at))) is
-              ∙ sym (ap (λ (us : List Use). outcome room us bs) (next true e) ∙ outcome-next room (useOf (r .field) (r .anyway)) (usesFrom rs name most true (r .before) (r .at)) bs h)
-              ∙ l .left;
-        }
+        pub used-on : answer .over ≡ false → Left rs name most room true (r .before) (r .at) (branchesOf (answer .next))
+        used-on h =
+            let q = answer-fits room (useOf f (r .anyway)) rest bs answer (l .fits) g h in
+            record { fits = q .0; left = sym (ap (λ (us : List Use). outcome room us bs) first ∙ q .1) ∙ l .left }
+
+      -- The branches that it makes of these, no more than these, are known.
+      pub used-by : (to : List Branch) → to ≡ step (useOf f (r .anyway)) bs → length to ≤ length bs → Left rs name most room true (r .before) (r .at) to
+      used-by to is few =
+          let h = l .fits in
+          record {
+            fits = omega arith;
+            left = ap (outcome room rest) is ∙ sym (ap (λ (us : List Use). outcome room us bs) first ∙ outcome-next room (useOf f (r .anyway)) rest bs h) ∙ l .left;
+          }

@@ -8,12 +8,11 @@ use mathlib.Core.List.{List, [], _∷_, map}
 use lib.ListN.{length, take, drop}
 use Rattle.chars.specs.Utf8.{isText, badPlace}
 use Rattle.plate.specs.Plate.{Rule, Plate}
-use Rattle.plate.specs.Read.{ruleAt}
-use Rattle.plate.specs.Stands.{Here}
-use Rattle.plate.specs.Field.{FieldOk}
+use Rattle.plate.specs.Read.{ruleAt, plateIn}
+use Rattle.plate.specs.Stands.{Here, fieldOf}
 use Rattle.branches.specs.Branches.{Use, start}
 use Rattle.branches.specs.Room.{outcome}
-use Rattle.branches.specs.Held.{useOf, BranchesOk, branchesOf}
+use Rattle.branches.specs.Held.{BranchesOk, branchesOf}
 use Rattle.branches.specs.declared.Stepped.{Stepped}
 use Rattle.coder.specs.Name.{Named, mostName, named}
 use Rattle.coder.specs.Name.Named.{Refused, Chars}
@@ -86,10 +85,16 @@ cutAll most us = map (cutTo most) us
 unfoldable pub usesFrom : List Rule → List ℕ → ℕ → Bool → ℕ → ℕ → List Use
 usesFrom rs name most started before at = cutAll most (walk rs (beforeOf started before) 0 (drop at name))
 
--- The next use is the first of them, and the others are those from the place behind it on; or there is none.
-pub record NextIs (rs : List Rule) (name : List ℕ) (most : ℕ) (started : Bool) (before at : ℕ) (r : NextUse) : Type 0 where
-  pub ok : FieldOk (r .field)
-  pub is : usesFrom rs name most started before at ≡ cond (r .found) (useOf (r .field) (r .anyway) ∷ usesFrom rs name most true (r .before) (r .at)) []
+-- the use that is told, with the first `most` of its alternatives
+abbrev pub useAt : List ℕ → ℕ → NextUse → Use
+useAt s most r = record { alternatives = take most (fieldOf (ruleAt s (r .place)) (r .which)); anyway = r .anyway }
+
+-- The next use is the first of them, however they are cut, and the others are those from the place behind it on; or there is none.
+pub record NextIs (s name : List ℕ) (started : Bool) (before at : ℕ) (r : NextUse) : Type 0 where
+  pub here : r .found ≡ true → Here s (r .place)
+  pub field : r .which ≤ 2
+  pub is : (most : ℕ) → usesFrom (plateIn s .rules) name most started before at
+      ≡ cond (r .found) (useAt s most r ∷ usesFrom (plateIn s .rules) name most true (r .before) (r .at)) []
   pub within : r .found ≡ true → at < length name
   pub behind : r .found ≡ true → at < r .at
 

@@ -5,8 +5,6 @@ mod run; // run.rt: from the uses to branches
 mod write; // write.rt: from branches to the bytes of their codes
 pub mod answer; // answer.rt: encode and list
 
-use plate::Field;
-
 // The most bytes of a name.
 const MOST_NAME: usize = 256;
 
@@ -31,10 +29,11 @@ struct Prepared {
     fault: NameFault,
 }
 
-// The next use along a name: the alternatives of the field taken and whether they are appended anyway, the place behind its pattern, and its first character,
-// which is the character before for what follows. Or that there is none.
+// The next use along a name: the rule's place and the number of the field taken (0 start, 1 before vowel, 2 default), whether its alternatives are appended
+// anyway, the place behind the pattern, and its first character, which is the character before for what follows. Or that there is none.
 struct NextUse {
-    field: Field,
+    place: usize,
+    which: usize,
     anyway: bool,
     at: usize,
     before: u32,

@@ -9,6 +9,7 @@ ghost use Rattle.coder.specs.Held.{cutAll, RunIs};
 use super::walk::next_use;
 use branches::Branches;
 use branches::Stepped;
+use plate::read;
 
 // Branches, and whether they are more than there is room for.
 fn stepped(next: Branches, over: bool) -> Stepped
@@ -50,11 +51,11 @@ pub(crate) fn run(
     let mut before: u32 = 0;
     let mut at: usize = 0;
     loop {
-        let u = next_use(plate, places, groups, name, most, started, before, at);
+        let u = next_use(plate, places, groups, name, started, before, at);
         if !u.found {
             return stepped(bs, false);
         }
-        let field = u.field;
+        let field = read::field_at(plate, u.place, u.which, most);
         // Most steps: the branch is extended where it stands. A step of any other kind copies all 64.
         if one_meets_one(bs.count, field.count) {
             let b = bs.items[0];

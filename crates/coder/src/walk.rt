@@ -1,21 +1,18 @@
 // From the characters of a name to the uses of rules: at each character the rule taken, and its field.
 ghost use mathlib.Core.Path.{_≡_};
 ghost use mathlib.Core.Bool.{true, false};
-ghost use mathlib.Core.List.{List, []};
+ghost use mathlib.Core.List.{List};
 ghost use Prim.Native.Nat.{ℕ, _<_, _≤_};
 ghost use lib.ListN.{length, drop, getD};
 ghost use Rattle.laws.specs.Lists.{begins};
 ghost use Rattle.plate.specs.Read.{plateIn, accepted, ruleAt};
 ghost use Rattle.plate.specs.Noted.{Noted};
-ghost use Rattle.plate.specs.Stands.{heldField};
 ghost use Rattle.coder.specs.Walk.{letters, vowelFollows, forced};
 ghost use Rattle.coder.specs.Held.{hitAt, FoundIs, beforeOf, whichField, NextIs};
 use super::Found;
 use super::NextUse;
 use chars::Next;
 use chars::letters::is_vowel;
-use plate::Alternative;
-use plate::Field;
 use plate::bits::bits;
 use plate::note::group_of;
 use plate::read;
@@ -126,20 +123,13 @@ fn is_forced(started: bool, before: u32, c: u32) -> bool
     false
 }
 
-// No use: no alternatives.
+// No use.
 fn no_use(at: usize) -> NextUse
-    ensures { λ r. ⌜ r ≡ record { field = heldField []; anyway = false; at = at; before = 0; found = false } ⌝ }
+    ensures { λ r. ⌜ r ≡ record { place = 0; which = 0; anyway = false; at = at; before = 0; found = false } ⌝ }
 {
-    let empty = Alternative {
-        digits: [b'0'; 6],
-        count: 0,
-    };
-    let field = Field {
-        alternatives: [empty; 8],
-        count: 0,
-    };
     NextUse {
-        field,
+        place: 0,
+        which: 0,
         anyway: false,
         at,
         before: 0,
@@ -153,13 +143,12 @@ pub(crate) fn next_use(
     places: &[u32],
     groups: &[u32],
     name: &[u32],
-    most: usize,
     begun: bool,
     last: u32,
     from: usize,
 ) -> NextUse
     requires { ⌜ (accepted (now plate) ≡ true) × Noted (now plate) (now places) (now groups) ⌝ }
-    ensures { λ r. ⌜ NextIs (plateIn (now (plate .entry)) .rules) (now (name .entry)) most begun last from r ⌝ }
+    ensures { λ r. ⌜ NextIs (now (plate .entry)) (now (name .entry)) begun last from r ⌝ }
 {
     let mut started = begun;
     let mut before = last;
@@ -177,9 +166,9 @@ pub(crate) fn next_use(
             Found::At(place, n) => {
                 let behind = at + n;
                 let which = which_field(started, vowel_at(name, behind));
-                let field = read::field_at(plate, place, which, most);
                 return NextUse {
-                    field,
+                    place,
+                    which,
                     anyway: is_forced(started, before, c),
                     at: behind,
                     before: c,

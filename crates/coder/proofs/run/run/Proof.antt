@@ -1,11 +1,16 @@
 -- `run::run` meets its contract. The loop keeps Steps.Left: what comes of the uses left and the branches held is what comes of all uses and the start. The
--- last use is Steps.done, one branch that meets one alternative Steps.used-by with Single.extended, any other step Steps.used-over or Steps.used-on. Each use stands behind the one before, so the loop ends. Assumes nothing.
+-- last use is Steps.done, one branch that meets one alternative Steps.used-by with Single.extended, any other step Steps.used-over or Steps.used-on. Each
+-- use stands behind the one before, so the loop ends. Assumes nothing.
 use Prim.Native.Nat.{_-_, _≤_, _<_}
 use native.Mathlib.Omega.{arith}
 use borrow.Author.Tests.{not-true, not-false}
-use lib.ListN.{length}
-use Rattle.plate.specs.Read.{plateIn}
+use mathlib.Core.Path.{_≡_}
+use lib.ListN.{length, take}
+use Rattle.plate.specs.Read.{ruleAt, plateIn}
+use Rattle.plate.specs.Stands.{fieldOf}
+use Rattle.plate.specs.Field.{FieldOk, alternativesOf}
 use Rattle.branches.specs.Held.{BranchesOk, branchesOf}
+use Rattle.coder.proofs.Alternatives.{taken-field}
 use Rattle.coder.proofs.Steps.{no-room, begin, done, used-by, used-over, used-on, Left}
 use Rattle.coder.proofs.Single.{branch-ok, only-ok, extended-ok, extended, as-many}
 use Rattle.coder.proofs.run.run.Statement.{statement}
@@ -32,7 +37,7 @@ returns c =
     let a = known .before .before .before .before .args in
     let z = tested .if1 .taken in
     let h : a .room < 1 = omega arith in
-    rw (c .stepped .ensures) (begun .start .ensures .0, no-room (plateIn (a .plate .now) .rules) (a .name .now) (a .most) (a .room) h)
+    rw (c .stepped .ensures) (begun .start .ensures .0, no-room (a .plate .now) (a .name .now) (a .most) (a .room) h)
 
 loop-holds : tie.Need-loop-holds Inv-loop μ-loop
 loop-holds c =
@@ -41,7 +46,7 @@ loop-holds c =
     let a = known .before .before .before .before .args in
     let z = c .if1 .left in
     let h : 1 ≤ a .room = omega arith in
-    (begun .start .ensures .0, begin (plateIn (a .plate .now) .rules) (a .name .now) (a .most) (a .room) (branchesOf (begun .start .result)) h (begun .start .ensures .1))
+    (begun .start .ensures .0, begin (a .plate .now) (a .name .now) (a .most) (a .room) (branchesOf (begun .start .result)) h (begun .start .ensures .1))
 
 next-use-requires : tie.Need-next-use-requires Inv-loop μ-loop
 next-use-requires c κs =
@@ -64,9 +69,31 @@ returns-2 c =
     let u = next .next-use in
     rw (c .stepped2 .ensures) (
       l .inv .0,
-      done (plateIn (a .plate .now) .rules) (a .name .now) (a .most) (a .room) (l .started) (l .before) (l .at) (branchesOf (l .bs)) (l .inv .1)
+      done (a .plate .now) (a .name .now) (a .most) (a .room) (l .started) (l .before) (l .at) (branchesOf (l .bs)) (l .inv .1)
           (u .result) (u .ensures) (not-true (u .result .found) (tested .if2 .taken)),
     )
+
+-- ---- the field of the use
+
+field-at-requires : tie.Need-field-at-requires Inv-loop μ-loop
+field-at-requires c κs =
+    let u = c .before .before .next-use in
+    (u .ensures .here (not-false (u .result .found) (c .if2 .left)), u .ensures .field)
+
+held : (p : tie.After-field-at Inv-loop μ-loop)
+    → let next = let tested = p .before in tested .before .before in
+    let known = let begun = next .before .before .before in begun .before in
+    let a = known .before .before .before .before .args in
+    let u = next .next-use .result in
+    FieldOk (p .field-at .result) × (alternativesOf (p .field-at .result) ≡ take (a .most) (fieldOf (ruleAt (a .plate .now) (u .place)) (u .which)))
+held p =
+    let tested = p .before in
+    let next = tested .before .before in
+    let known = let begun = next .before .before .before in begun .before in
+    let a = known .before .before .before .before .args in
+    let u = next .next-use in
+    let here = u .ensures .here (not-false (u .result .found) (tested .if2 .left)) in
+    taken-field (ruleAt (a .plate .now) (u .result .place)) (here .good) (u .result .which) (a .most) (p .field-at .result) (p .field-at .ensures)
 
 -- ---- one branch meets one alternative: seen from behind the test for it
 
@@ -83,17 +110,18 @@ element-copy-out-b : tie.Need-element-copy-out-b Inv-loop μ-loop
 element-copy-out-b c = let l = loop-of (c .before) .loop .inv .0 .long in omega arith
 
 element-copy-out-a : tie.Need-element-copy-out-a Inv-loop μ-loop
-element-copy-out-a c = let l = next-of (c .before .before) .next-use .ensures .ok .long in omega arith
+element-copy-out-a c = let m = c .before .before in let l = held (m .before) .0 .long in omega arith
 
 extend-requires : tie.Need-extend-requires Inv-loop μ-loop
 extend-requires c κs =
     let taken = c .before .before in
     let m = taken .before in
     let l = loop-of m .loop in
-    let u = next-of m .next-use in
+    let f = m .before .field-at .result in
+    let good = held (m .before) .0 in
     let ones = m .one-meets-one .ensures (taken .if3 .taken) in (
-      branch-ok (l .bs .items) (l .bs .count) (u .result .field) (l .inv .0) (u .ensures .ok) (ones .0) (ones .1),
-      only-ok (l .bs .items) (l .bs .count) (u .result .field) (l .inv .0) (u .ensures .ok) (ones .0) (ones .1),
+      branch-ok (l .bs .items) (l .bs .count) f (l .inv .0) good (ones .0) (ones .1),
+      only-ok (l .bs .items) (l .bs .count) f (l .inv .0) good (ones .0) (ones .1),
     )
 
 element-set-from-bs : tie.Need-element-set-from-bs Inv-loop μ-loop
@@ -125,14 +153,15 @@ loop-again c =
     let ones = m .one-meets-one .ensures (taken .if3 .taken) in
     let items = l .bs .items in
     let n = l .bs .count in
-    let f = u .result .field in
+    let f = m .before .field-at .result in
+    let good = held (m .before) .0 in
     let e = c .extend .result in
     let ok = c .extend .ensures .0 in
     let is = c .extend .ensures .1 in (
-      extended-ok items n f (l .inv .0) (u .ensures .ok) (ones .0) (ones .1) (u .result .anyway) e ok is,
-      used-by (plateIn (a .plate .now) .rules) (a .name .now) (a .most) (a .room) (l .started) (l .before) (l .at) (branchesOf (l .bs)) (l .inv .1) (u .result) (u .ensures) found
-          _ (extended items n f (l .inv .0) (u .ensures .ok) (ones .0) (ones .1) (u .result .anyway) e ok is)
-          (as-many items n f (l .inv .0) (u .ensures .ok) (ones .0) (ones .1) (u .result .anyway) e ok is),
+      extended-ok items n f (l .inv .0) good (ones .0) (ones .1) (u .result .anyway) e ok is,
+      used-by (a .plate .now) (a .name .now) (a .most) (a .room) (l .started) (l .before) (l .at) (branchesOf (l .bs)) (l .inv .1) (u .result) (u .ensures) found
+          f (held (m .before) .1) _ (extended items n f (l .inv .0) good (ones .0) (ones .1) (u .result .anyway) e ok is)
+          (as-many items n f (l .inv .0) good (ones .0) (ones .1) (u .result .anyway) e ok is),
     )
 
 -- ---- any other step
@@ -143,12 +172,13 @@ step-requires c κs =
     let next = next-of m in
     let at-loop = next .before in
     let known = let begun = at-loop .before .before in begun .before in
-    (at-loop .loop .inv .0, next .next-use .ensures .ok, known .before .before .before .before .pre .2)
+    (at-loop .loop .inv .0, held (m .before) .0, known .before .before .before .before .pre .2)
 
 returns-3 : tie.Need-returns-3 Inv-loop μ-loop
 returns-3 c =
     let met = c .before in
-    let tested = let m = met .before .before in m .before .before in
+    let m = met .before .before in
+    let tested = m .before .before in
     let next = tested .before .before in
     let at-loop = next .before in
     let known = let begun = at-loop .before .before in begun .before in
@@ -157,14 +187,15 @@ returns-3 c =
     let u = next .next-use in
     let found = not-false (u .result .found) (tested .if2 .left) in (
       met .step .ensures .1,
-      rw (c .if4 .taken) (used-over (plateIn (a .plate .now) .rules) (a .name .now) (a .most) (a .room) (l .started) (l .before) (l .at) (branchesOf (l .bs)) (l .inv .1)
-          (u .result) (u .ensures) found (met .step .result) (met .step .ensures) (c .if4 .taken)),
+      rw (c .if4 .taken) (used-over (a .plate .now) (a .name .now) (a .most) (a .room) (l .started) (l .before) (l .at) (branchesOf (l .bs)) (l .inv .1)
+          (u .result) (u .ensures) found (m .before .field-at .result) (held (m .before) .1) (met .step .result) (met .step .ensures) (c .if4 .taken)),
     )
 
 loop-less-2 : tie.Need-loop-less-2 Inv-loop μ-loop
 loop-less-2 c =
     let met = c .before .before in
-    let tested = let m = met .before .before in m .before .before in
+    let m = met .before .before in
+    let tested = m .before .before in
     let next = tested .before .before in
     let u = next .next-use in
     let found = not-false (u .result .found) (tested .if2 .left) in
@@ -174,7 +205,8 @@ loop-again-2 : tie.Need-loop-again-2 Inv-loop μ-loop
 loop-again-2 c =
     let kept = c .before in
     let met = kept .before in
-    let tested = let m = met .before .before in m .before .before in
+    let m = met .before .before in
+    let tested = m .before .before in
     let next = tested .before .before in
     let at-loop = next .before in
     let known = let begun = at-loop .before .before in begun .before in
@@ -183,8 +215,8 @@ loop-again-2 c =
     let u = next .next-use in
     let found = not-false (u .result .found) (tested .if2 .left) in (
       met .step .ensures .1,
-      used-on (plateIn (a .plate .now) .rules) (a .name .now) (a .most) (a .room) (l .started) (l .before) (l .at) (branchesOf (l .bs)) (l .inv .1)
-          (u .result) (u .ensures) found (met .step .result) (met .step .ensures) (kept .if4 .left),
+      used-on (a .plate .now) (a .name .now) (a .most) (a .room) (l .started) (l .before) (l .at) (branchesOf (l .bs)) (l .inv .1)
+          (u .result) (u .ensures) found (m .before .field-at .result) (held (m .before) .1) (met .step .result) (met .step .ensures) (kept .if4 .left),
     )
 
 pub run-spec : {M : Type 1} → statement M
@@ -200,6 +232,7 @@ run-spec =
     next-use-requires
     stepped-requires-2
     returns-2
+    field-at-requires
     one-meets-one-requires
     element-copy-out-b
     element-copy-out-a

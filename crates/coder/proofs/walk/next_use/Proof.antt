@@ -1,6 +1,6 @@
 -- `walk::next_use` meets its contract. The loop keeps: the uses from here on are the uses from the place that was asked. A character without a match is
 -- Steps.known or Steps.unknown, a rule that is taken Steps.used, the end Steps.from-end. A pattern has a character, so the place moves. Assumes nothing.
-use Prim.Native.Nat.{ℕ, _-_, _≤_}
+use Prim.Native.Nat.{ℕ, _-_, _≤_, zero-le}
 use mathlib.Core.Path.{_≡_, refl, sym, ap, _∙_}
 use mathlib.Core.Bool.{false, false≢true}
 use mathlib.Core.List.{List}
@@ -12,20 +12,18 @@ use Rattle.plate.specs.Plate.{Rule}
 use Rattle.plate.specs.Read.{ruleAt, plateIn}
 use Rattle.plate.specs.Stands.{fieldOf}
 use Rattle.plate.proofs.Facts.{rules-good, rules-ordered}
-use Rattle.branches.specs.Held.{useOf}
 use Rattle.coder.specs.Search.Hit.{None}
 use Rattle.coder.specs.Held.{hitAt, FoundAt, whichField, usesFrom}
-use Rattle.coder.proofs.Alternatives.{taken-field, none-held}
 use Rattle.coder.proofs.Steps.{known, unknown, used, from-end}
 use Rattle.coder.proofs.walk.next_use.Statement.{statement}
 use Rattle.coder.proofs.walk.next_use.Tie as tie
 
 abbrev Inv-loop : tie.InvT-loop
-Inv-loop plate places groups name most begun last from started₀ before₀ at₀ started before at =
-    (from ≤ at) × (usesFrom (plateIn plate .rules) name most started before at ≡ usesFrom (plateIn plate .rules) name most begun last from)
+Inv-loop plate places groups name begun last from started₀ before₀ at₀ started before at =
+    (from ≤ at) × ((most : ℕ) → usesFrom (plateIn plate .rules) name most started before at ≡ usesFrom (plateIn plate .rules) name most begun last from)
 
 abbrev μ-loop : tie.MeasureT-loop
-μ-loop plate places groups name most begun last from started₀ before₀ at₀ started before at = length name - at
+μ-loop plate places groups name begun last from started₀ before₀ at₀ started before at = length name - at
 
 -- ---- what was lent, and what the search told, seen from behind its call
 
@@ -53,7 +51,7 @@ told2 k = let s = k .before .before .before in rw (rest (here-of s) (name-of s))
 -- ---- the needs
 
 loop-holds : tie.Need-loop-holds Inv-loop μ-loop
-loop-holds c = (omega arith, refl)
+loop-holds c = (omega arith, λ _. refl)
 
 mul-c : tie.Need-mul-c Inv-loop μ-loop
 mul-c c = omega arith
@@ -100,8 +98,8 @@ loop-again c =
     let below = s .before .before .before .loop-test .taken in
     let i = l .inv .0 in (
       omega arith,
-      known (rules-of s) (name-of s) (start .args .most) (rules-good (plate-of s) a) (rules-ordered (plate-of s) a) (l .started) (l .before) (l .at) below (rw (c .if1 .taken) at (told k))
-          ∙ l .inv .1,
+      λ most. known (rules-of s) (name-of s) most (rules-good (plate-of s) a) (rules-ordered (plate-of s) a) (l .started) (l .before) (l .at) below (rw (c .if1 .taken) at (told k))
+          ∙ l .inv .1 most,
     )
 
 loop-less-2 : tie.Need-loop-less-2 Inv-loop μ-loop
@@ -118,8 +116,8 @@ loop-again-2 c =
     let below = s .before .before .before .loop-test .taken in
     let i = l .inv .0 in (
       omega arith,
-      unknown (rules-of s) (name-of s) (start .args .most) (rules-good (plate-of s) a) (rules-ordered (plate-of s) a) (l .started) (l .before) (l .at) below (rw (c .if1 .left) at (told k))
-          ∙ l .inv .1,
+      λ most. unknown (rules-of s) (name-of s) most (rules-good (plate-of s) a) (rules-ordered (plate-of s) a) (l .started) (l .before) (l .at) below (rw (c .if1 .left) at (told k))
+          ∙ l .inv .1 most,
     )
 
 enum-known-place : tie.Need-enum-known-place Inv-loop μ-loop
@@ -137,16 +135,12 @@ vowel-at-requires c κs = tt
 which-field-requires : tie.Need-which-field-requires Inv-loop μ-loop
 which-field-requires c κs = tt
 
-field-at-requires : tie.Need-field-at-requires Inv-loop μ-loop
-field-at-requires c κs = (told2 (c .before .before) .here, c .which-field .ensures .1)
-
 is-forced-requires : tie.Need-is-forced-requires Inv-loop μ-loop
 is-forced-requires c κs = tt
 
 returns : tie.Need-returns Inv-loop μ-loop
 returns c =
-    let fielded = c .before in
-    let which = fielded .before in
+    let which = c .before in
     let k = which .before .before in
     let s = k .before .before .before in
     let at-loop = s .before .before .before .before in
@@ -157,14 +151,14 @@ returns c =
     let found = told2 k in
     let n = k .before .place .given .0 .1 .0 in
     let r = ruleAt (plate-of s) (k .before .place .given .0 .0) in
-    let field = fielded .field-at .result in
     let below = s .before .before .before .loop-test .taken in
-    let number = which .which-field .ensures .0 ∙ ap (whichField (l .started)) (which .before .vowel-at .ensures) in
-    let held = taken-field r (found .here .good) (which .which-field .result) (start .args .most) field (fielded .field-at .ensures) in record {
-      ok = held .0;
-      is = sym (l .inv .1)
-          ∙ used (rules-of s) (name-of s) (start .args .most) (rules-good (plate-of s) a) (rules-ordered (plate-of s) a) (l .started) (l .before) (l .at) below r n
-          (found .taken) (found .counted) (found .some) (useOf field (c .is-forced .result)) (held .1 ∙ ap (λ (m : ℕ). take (start .args .most) (fieldOf r m)) number) (c .is-forced .ensures);
+    let number = which .which-field .ensures .0 ∙ ap (whichField (l .started)) (which .before .vowel-at .ensures) in record {
+      here = λ _. found .here;
+      field = which .which-field .ensures .1;
+      is = λ most. sym (l .inv .1 most)
+          ∙ used (rules-of s) (name-of s) most (rules-good (plate-of s) a) (rules-ordered (plate-of s) a) (l .started) (l .before) (l .at) below r n
+          (found .taken) (found .counted) (found .some) (record { alternatives = take most (fieldOf r (which .which-field .result)); anyway = c .is-forced .result })
+          (ap (λ (m : ℕ). take most (fieldOf r m)) number) (c .is-forced .ensures);
       within = λ _. omega (arith, i, below);
       behind = λ _. omega (arith, i, found .some);
     }
@@ -179,8 +173,9 @@ returns-2 c =
     let start = let slices = at-loop .before in slices .before .before .before .before in
     let l = at-loop .loop in
     rw (c .no-use .ensures) (record {
-      ok = none-held;
-      is = sym (l .inv .1) ∙ from-end (plateIn (start .args .plate .now) .rules) (start .args .name .now) (start .args .most) (l .started) (l .before) (l .at) (done .loop-test .left);
+      here = λ e. absurd (false≢true e);
+      field = zero-le;
+      is = λ most. sym (l .inv .1 most) ∙ from-end (plateIn (start .args .plate .now) .rules) (start .args .name .now) most (l .started) (l .before) (l .at) (done .loop-test .left);
       within = λ e. absurd (false≢true e);
       behind = λ e. absurd (false≢true e);
     })
@@ -209,7 +204,6 @@ next-use-spec =
     add-behind
     vowel-at-requires
     which-field-requires
-    field-at-requires
     is-forced-requires
     returns
     no-use-requires
