@@ -7,7 +7,7 @@ use mathlib.Core.List.{List, [], _∷_}
 use native.Mathlib.Omega.{arith}
 use lib.Dec.{ltb, leb}
 use lib.ListN.{length, take, drop, getD, List·getD-eq-default, take-append-drop}
-use borrow.Author.Tests.{lt-ltb, le-leb, leb-true, leb-false}
+use borrow.Author.Tests.{lt-ltb, lt-leb, le-leb, leb-true, leb-false}
 use Rattle.laws.specs.Lists.{every, between}
 use Rattle.laws.proofs.Tests.{and-true, and-left-false, and-right-false, by-test, is-between}
 use Rattle.laws.proofs.Many.{and-holds, and-right-holds, and-assoc, every-append}
@@ -89,6 +89,20 @@ module _ (s : List ℕ) (n at : ℕ) where
     pub ascii-is : (v : ℕ) → v ≡ numberAt s at 8 → v ≤ 0x7F → (v ≡ 0 → ⊥) → FrontIs.Is v 1 ≡ frontOf (charOf (bytesAt s n at))
     ascii-is v e i z =
         sym (ap frontOf (ascii v e i) ∙ ap (λ (t : Bool). cond t (FrontIs.Is v 1) FrontIs.Not) (lt-ltb 0 v (omega arith)))
+
+    -- Two bytes are a character, from U+0080 to U+07FF.
+    pub double-is : (a b : ℕ) → a ≡ numberAt s at 8 → b ≡ numberAt s (at + 8) 8 → 2 ≤ n → 0xC2 ≤ a → a ≤ 0xDF → 0x80 ≤ b → b ≤ 0xBF
+        → FrontIs.Is (a % 32 * 64 + b % 64) 2 ≡ frontOf (charOf (bytesAt s n at))
+    double-is a b e f m a-low a-high b-low b-high =
+        let more : 0 < n - 1 = omega (arith, m) in
+        let behind = many (λ p. numberAt s p 8) (λ p. p + 8) (n - 1 - 1) (at + 8 + 8) in
+        let large : 0x80 ≤ a % 32 * 64 + b % 64 = omega (arith, a-low, a-high) in
+        let is : charOf (bytesAt s n at) ≡ One (a % 32 * 64 + b % 64) 2 =
+        ap charOf (many-cons (λ p. numberAt s p 8) (λ p. p + 8) n at h
+        ∙ ap (λ (l : List ℕ). numberAt s at 8 ∷ l) (many-cons (λ p. numberAt s p 8) (λ p. p + 8) (n - 1) (at + 8) more))
+        ∙ ap₂ (λ (x y : ℕ). charOf (x ∷ y ∷ behind)) (sym e) (sym f)
+        ∙ simp (lt-leb a 0x7F (omega (arith, a-low)), is-between 0xC0 0xDF a (omega (arith, a-low)) a-high, is-between 0x80 0xBF b b-low b-high, le-leb 0x80 _ large) in
+        sym (ap frontOf is ∙ ap (λ (t : Bool). cond t (FrontIs.Is (a % 32 * 64 + b % 64) 2) FrontIs.Not) (lt-ltb 0 (a % 32 * 64 + b % 64) (omega (arith, large))))
 
     -- The whole decoder's answer, as a front.
     module _ (r : Char) (e : r ≡ charOf (bytesAt s n at)) where

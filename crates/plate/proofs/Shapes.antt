@@ -14,14 +14,14 @@ use Rattle.plate.specs.Bits.{numberAt}
 use Rattle.plate.specs.Plate.{goodField, nonzeroScalar}
 use Rattle.plate.specs.Read.{fieldAt, fieldEnd}
 use Rattle.plate.specs.Window.{Holds}
-use Rattle.plate.specs.Plain.{Takes, Passes, Ascii}
+use Rattle.plate.specs.Plain.{Takes, Passes, Ascii, Double}
 use Rattle.plate.specs.Answers.{bytesAt, frontOf, goodText, firstOf, lastDigits, alternativeStep, alternativesStep, fieldStep, fieldsStep, keyBehind}
 use Rattle.plate.specs.declared.Front.the-variants as FrontIs
 use Rattle.plate.specs.declared.First.the-variants as FirstIs
 use Rattle.plate.specs.declared.Step.the-variants.{To}
 use Rattle.plate.proofs.Place.{number-lt}
-use Rattle.plate.proofs.Windows.{number-append, front, shifted}
-use Rattle.plate.proofs.Fronts.{ascii-is, text-turn, first-decided}
+use Rattle.plate.proofs.Windows.{number-append, front, part-is, shifted}
+use Rattle.plate.proofs.Fronts.{ascii-is, double-is, text-turn, text-end, first-decided}
 use Rattle.plate.proofs.Accepted.{by-digits, field-one, field-is, alternatives-turn, alternatives-end, three-4, key-is}
 
 module _ (s : List ℕ) where
@@ -185,6 +185,36 @@ pass-one w range s at n some held =
     let is-byte : byte ≡ numberAt s at 8 = front s at 8 w held (omega arith) 8 (omega arith) in
     text-turn s n at some (FrontIs.Is byte 1) (ascii-is s n at some byte is-byte (omega arith) (λ e. omega arith)) byte 1 refl
 
+-- The bytes of a character of two are the first two of the window.
+module _ (s : List ℕ) (at n w : ℕ) (some : 2 ≤ n) (range : Double w) (held : Holds s at 16 w) where
+  abbrev lead : ℕ
+  lead = w / 72057594037927936
+
+  abbrev second : ℕ
+  second = w / 281474976710656 % 256
+
+  double : FrontIs.Is (lead % 32 * 64 + second % 64) 2 ≡ frontOf (charOf (bytesAt s n at))
+  double =
+      let low = range .0 in
+      let high = range .1 in
+      let ten = range .2 in
+      let is-lead : lead ≡ numberAt s at 8 = front s at 16 w held (omega arith) 8 (omega arith) in
+      let is-second : second ≡ numberAt s (at + 8) 8 = part-is s at 16 w held (omega arith) 8 8 (omega arith) in
+      double-is s n at (omega arith) lead second is-lead is-second some (omega (arith, low)) (omega (arith, high)) (omega (arith, ten)) (omega (arith, ten))
+
+  -- They pass.
+  pub double-turn : goodText (bytesAt s (n - 2) (at + 16)) ≡ goodText (bytesAt s n at)
+  double-turn = text-turn s n at (omega (arith, some)) _ double (lead % 32 * 64 + second % 64) 2 refl
+
+  -- Where all is text, they are the first code point.
+  pub double-first : n ≤ 6 → goodText (bytesAt s n at) ≡ true → FirstIs.Code (lead % 32 * 64 + w / 281474976710656 % 64) ≡ firstOf (bytesAt s n at)
+  double-first few good =
+      ap FirstIs.Code {x = lead % 32 * 64 + w / 281474976710656 % 64} {y = lead % 32 * 64 + second % 64} (omega arith)
+      ∙ first-decided s n at (omega (arith, some)) (omega (arith, few)) _ double (lead % 32 * 64 + second % 64) 2 refl true (sym (double-turn ∙ good)) true refl
+
+pub pass-two : (w : ℕ) → Double w → Passes 2 w
+pass-two w range s at n some held = double-turn s at n w some range held
+
 pub pass-both : (j k w : ℕ) → j + k ≤ 8 → Passes j w → Passes k (w * 2 ^ (8 * j) % 2 ^ 64) → Passes (j + k) w
 pass-both j k w few first second s at n some held =
     let less : n - (j + k) ≡ n - j - k = omega arith in
@@ -194,3 +224,28 @@ pass-both j k w few first second s at n some held =
     ap₂ (λ (m p : ℕ). goodText (bytesAt s m p)) less further
     ∙ second s (at + 8 * j) (n - j) (omega arith) (behind-held s at (8 * (j + k)) w (8 * j) (8 * k) held bits behind)
     ∙ first s at n (omega arith) (front s at (8 * (j + k)) w held bits (8 * j) (omega arith))
+
+-- ---- characters one by one: the bytes left, which stand in front of the rest of a window, are text exactly if all are
+
+pub Rest : ℕ → ℕ → ℕ → ℕ → Type 0
+Rest w n rest left = (s : List ℕ) (at : ℕ) → Holds s at (8 * n) w → (p : ℕ) × Holds s p (8 * left) rest × (goodText (bytesAt s left p) ≡ goodText (bytesAt s n at))
+
+pub rest-all : (w n : ℕ) → Rest w n w n
+unfolding Rest
+rest-all w n = λ s at held. (at, held, refl)
+
+pub rest-turn : (w n rest left k : ℕ) → Rest w n rest left → left ≤ 6 → k ≤ left → Passes k rest → Rest w n (rest * 2 ^ (8 * k) % 2 ^ 64) (left - k)
+unfolding Rest
+rest-turn w n rest left k all few there passes = λ s at held.
+    let i = all s at held in
+    let most : 8 * left ≤ 64 = omega (arith, few) in
+    let fits : 8 * k + 8 * (left - k) ≤ 8 * left = omega (arith, there) in
+    let within : 8 * k ≤ 8 * left = omega (arith, there) in (
+      i .0 + 8 * k,
+      behind-held s (i .0) (8 * left) rest (8 * k) (8 * (left - k)) (i .1) most fits,
+      passes s (i .0) left there (front s (i .0) (8 * left) rest (i .1) most (8 * k) within) ∙ i .2,
+    )
+
+pub rest-none : (w n rest left : ℕ) → Rest w n rest left → left ≤ 0 → (s : List ℕ) (at : ℕ) → Holds s at (8 * n) w → goodText (bytesAt s n at) ≡ true
+unfolding Rest
+rest-none w n rest left all none = λ s at held. let i = all s at held in sym (i .2) ∙ text-end s left (i .0) none

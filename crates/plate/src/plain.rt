@@ -1,4 +1,4 @@
-// Plain rules and foldings, which most are: a pattern of 1 to 6 ASCII bytes, and fields of few alternatives of few digits; a key and a target below the
+// Plain rules and foldings, which most are: a pattern of 1 to 6 bytes in characters of one or two, and fields of few alternatives of few digits; a key and a target below the
 // surrogates. Such a shape is a range of the window that it stands in front of. Of any other shape the answer is 0, and accept.rt goes the long way.
 ghost use mathlib.Core.Path.{_≡_};
 ghost use mathlib.Core.Bool.{true};
@@ -8,7 +8,7 @@ ghost use lib.ListN.{length};
 ghost use Rattle.plate.specs.Most.{farthest};
 ghost use Rattle.plate.specs.Window.{Holds};
 ghost use Rattle.plate.specs.Answers.{bytesAt, goodText, firstOf, alternativeStep, fieldStep, fieldsStep, keyBehind};
-ghost use Rattle.plate.specs.Plain.{Takes, Passes, Ascii};
+ghost use Rattle.plate.specs.Plain.{Takes, Passes, Ascii, Double};
 ghost use Rattle.plate.specs.declared.Step.the-variants.{To};
 ghost use Rattle.plate.specs.declared.First.the-variants.{Code};
 use super::CHARACTER_BITS;
@@ -67,6 +67,68 @@ fn all_ascii(w: u64, n: usize) -> bool
     }
 }
 
+// A character of two bytes stands in front of a window: 110, then 10; the first byte is 0xC2 at least.
+fn is_double(w: u64) -> bool
+    ensures { λ r. ⌜ (r ≡ true → Double w) ⌝ }
+{
+    if w < 0xC200000000000000 {
+        return false;
+    }
+    if 0xE000000000000000 <= w {
+        return false;
+    }
+    (w >> 54) % 4 == 2
+}
+
+// The bytes of such a character or of an ASCII one; 0 if another stands there.
+fn char_width(w: u64) -> usize
+    ensures { λ r. ⌜ (r ≤ 2) × ((r ≡ 0 → ⊥) → Passes r w) ⌝ }
+{
+    if is_ascii(w) {
+        return 1;
+    }
+    if is_double(w) { 2 } else { 0 }
+}
+
+// All n bytes are such characters.
+fn short_text(w: u64, n: usize) -> bool
+    requires { ⌜ n ≤ 6 ⌝ }
+    ensures { λ r. ⌜ (r ≡ true → (s : List ℕ) (at : ℕ) → Holds s at (8 * n) w → goodText (bytesAt s n at) ≡ true) ⌝ }
+{
+    let mut rest = w;
+    let mut left = n;
+    while 0 < left {
+        let width = char_width(rest);
+        if width == 0 {
+            return false;
+        }
+        if left < width {
+            return false;
+        }
+        rest = rest << (8 * width);
+        left -= width;
+    }
+    true
+}
+
+// The first code point of n such bytes.
+fn short_code(w: u64, n: usize) -> u32
+    requires { ⌜ (1 ≤ n) × (n ≤ 6) ⌝ }
+    ensures { λ r. ⌜ ((r ≡ 0 → ⊥) → (s : List ℕ) (at : ℕ) → Holds s at (8 * n) w → Code r ≡ firstOf (bytesAt s n at)) ⌝ }
+{
+    if short_text(w, n) {
+        if is_ascii(w) {
+            return (w >> 56) as u32;
+        }
+        if is_double(w) {
+            if 2 <= n {
+                return ((w >> 56) % 32 * 64 + (w >> 48) % 64) as u32;
+            }
+        }
+    }
+    0
+}
+
 // The first code point of a pattern of n bytes in front of a window.
 pub(crate) fn plain_code(w: u64, n: usize) -> u32
     ensures { λ r. ⌜ ((r ≡ 0 → ⊥) → (n ≤ 6) × ((s : List ℕ) (at : ℕ) → Holds s at 48 w → Code r ≡ firstOf (bytesAt s n at))) ⌝ }
@@ -80,7 +142,7 @@ pub(crate) fn plain_code(w: u64, n: usize) -> u32
     if all_ascii(w, n) {
         return (w >> 56) as u32;
     }
-    0
+    short_code(w, n)
 }
 
 // A field of one alternative of one digit stands in front of a window: 0001, 001, and a digit of 0 to 9.

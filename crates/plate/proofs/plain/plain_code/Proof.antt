@@ -1,4 +1,4 @@
--- `plate::plain::plain_code` meets its contract: an ASCII byte in front, and such bytes behind it (Shapes.ascii-first). Assumes nothing.
+-- `plate::plain::plain_code` meets its contract: an ASCII byte in front, and such bytes behind it (Shapes.ascii-first); any other is `short_code`'s. Assumes nothing.
 use Prim.Native.Nat.{_*_, _≤_}
 use mathlib.Core.Path.{refl, _∙_}
 use native.Mathlib.Omega.{arith}
@@ -37,8 +37,18 @@ returns-3 c =
           ascii-first s at (a .n) (a .w) here some few (range .0) (range .1) (ascii-turn s at (a .n) (a .w) here some few (range .0) (range .1) ∙ text .1 s at here),
     )
 
+short-code-requires : tie.Need-short-code-requires
+short-code-requires c κs =
+    let counted = c .before .before in
+    (counted .before .if1 .left, counted .if2 .left)
+
 returns-4 : tie.Need-returns-4
-returns-4 c = λ some. absurd (some refl)
+returns-4 c =
+    let counted = c .before .before .before in
+    let a = counted .before .before .args in
+    let few = counted .if2 .left in
+    let whole : 8 * a .n ≤ 48 = omega (arith, few) in
+    λ some. (few, λ s at held. c .short-code .ensures some s at (front s at 48 (a .w) held (omega arith) (8 * a .n) whole))
 
 pub plain-code-spec : {M : Type 1} → statement M
-plain-code-spec = tie.close (tie.spec returns returns-2 all-ascii-requires cast-result returns-3 returns-4)
+plain-code-spec = tie.close (tie.spec returns returns-2 all-ascii-requires cast-result returns-3 short-code-requires returns-4)
