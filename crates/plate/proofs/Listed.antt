@@ -39,7 +39,7 @@ module _ {A : Type 0} (f : ℕ → A) (e : ℕ → ℕ) where
   drop-many zero at (suc k) = ap (λ (m : ℕ). many f e m (past e k (e at))) {x = 0} {y = 0 - suc k} (omega arith)
   drop-many (suc n) at (suc k) = drop-many n (e at) k ∙ ap (λ (m : ℕ). many f e m (past e k (e at))) {x = n - k} {y = suc n - suc k} (omega arith)
 
-  take-many : (k n at : ℕ) → k ≤ n → take k (many f e n at) ≡ many f e k at
+  pub take-many : (k n at : ℕ) → k ≤ n → take k (many f e n at) ≡ many f e k at
   take-many zero n at h = refl
   take-many (suc k) zero at h = absurd (omega arith)
   take-many (suc k) (suc n) at h = ap (λ (l : List A). f at ∷ l) (take-many k n (e at) (omega arith))

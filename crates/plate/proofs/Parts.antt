@@ -8,7 +8,7 @@ use mathlib.Core.List.{List, [], _∷_, _++_, map}
 use native.Mathlib.Omega.{arith}
 use native.Mathlib.Numerals.{add-one}
 use lib.Dec.{ltb, leb, eqb}
-use lib.ListN.{length, take, drop, set, replicate, length-drop, length-map}
+use lib.ListN.{length, take, drop, getD, set, replicate, length-drop, length-map}
 use lib.Seq.{drop-drop}
 use borrow.Author.Tests.{leb-true, ltb-true, eq-eqb, ne-eqb}
 use Rattle.laws.specs.Lists.{every, between}
@@ -32,7 +32,7 @@ use Rattle.plate.specs.declared.Alternative.{Alternative}
 use Rattle.plate.specs.declared.Field.{Field}
 use Rattle.plate.proofs.Place.{number-lt}
 use Rattle.plate.proofs.Windows.{number-append, middle}
-use Rattle.plate.proofs.Listed.{length-many, many-cons, many-snoc, past-cons, past-add, past-snoc, every-at, take-least}
+use Rattle.plate.proofs.Listed.{length-many, many-cons, many-snoc, getD-many, take-many, drop-many, past-cons, past-add, past-snoc, every-at, take-least}
 use Rattle.plate.proofs.Facts.{rule-near}
 use Rattle.plate.proofs.Fronts.{front-is, bytes-length, bytes-drop, ascii, front-text, not-front}
 
@@ -51,6 +51,83 @@ below-first c f (q ∷ more) h g =
     let b = and-true (ltb (f .key) (q .key)) (rising (q ∷ more)) h in
     let k = ltb-true (f .key) (q .key) (b .0) in
     ap (λ (t : Bool). cond t (f .target) (foldBy (q ∷ more) c)) (ne-eqb (f .key) c (λ e. omega arith)) ∙ below-first c q more (b .1) (omega arith)
+
+-- A folding behind the first has a greater key.
+key-behind : (f d : Folding) (more : List Folding) (m : ℕ) → rising (f ∷ more) ≡ true → m < length more → f .key < getD more m d .key
+key-behind f d [] m r l = absurd (omega arith)
+key-behind f d (g ∷ more) zero r l = ltb-true (f .key) (g .key) (and-true (ltb (f .key) (g .key)) (rising (g ∷ more)) r .0)
+key-behind f d (g ∷ more) (suc m) r l =
+    let b = and-true (ltb (f .key) (g .key)) (rising (g ∷ more)) r in
+    let near = ltb-true (f .key) (g .key) (b .0) in
+    let far = key-behind g d more m (b .1) (omega arith) in
+    omega arith
+
+rising-drop : (m : ℕ) (fs : List Folding) → rising fs ≡ true → rising (drop m fs) ≡ true
+rising-drop zero fs r = r
+rising-drop (suc m) [] r = refl
+rising-drop (suc m) (f ∷ more) r = rising-drop m more (rising-rest f more r)
+
+rising-take : (m : ℕ) (fs : List Folding) → rising fs ≡ true → rising (take m fs) ≡ true
+rising-take zero fs r = refl
+rising-take (suc m) [] r = refl
+rising-take (suc zero) (f ∷ more) r = refl
+rising-take (suc (suc m)) (f ∷ []) r = refl
+rising-take (suc (suc m)) (f ∷ g ∷ more) r =
+    let b = and-true (ltb (f .key) (g .key)) (rising (g ∷ more)) r in
+    both-true (b .0) (rising-take (suc m) (g ∷ more) (b .1))
+
+module _ (c : ℕ) (d : Folding) where
+  -- Where the key of the m-th is no greater, those before it say nothing.
+  fold-drop : (m : ℕ) (fs : List Folding) → rising fs ≡ true → m < length fs → getD fs m d .key ≤ c → foldBy (drop m fs) c ≡ foldBy fs c
+  unfolding foldBy
+  fold-drop zero fs r l h = refl
+  fold-drop (suc m) [] r l h = absurd (omega arith)
+  fold-drop (suc m) (f ∷ more) r l h =
+      let inside : m < length more = omega (arith, l) in
+      let greater = key-behind f d more m r inside in
+      fold-drop m more (rising-rest f more r) inside h
+      ∙ sym (ap (λ (t : Bool). cond t (f .target) (foldBy more c)) (ne-eqb (f .key) c (λ e. omega (arith, greater, h, e))))
+
+  -- Where it is greater, neither it nor those behind it do.
+  fold-take : (m : ℕ) (fs : List Folding) → rising fs ≡ true → m < length fs → c < getD fs m d .key → foldBy (take m fs) c ≡ foldBy fs c
+  unfolding foldBy
+  fold-take m [] r l h = absurd (omega arith)
+  fold-take zero (f ∷ more) r l h = sym (below-first c f more r h)
+  fold-take (suc m) (f ∷ more) r l h = ap (cond (eqb (f .key) c) (f .target)) (fold-take m more (rising-rest f more r) (omega arith) h)
+
+-- By halves: the key of the folding in the middle tells which side may have it.
+module _ (s : List ℕ) (c at left half : ℕ) (r : rising (many (foldingAt s) foldingEnd left at) ≡ true) (h : half < left) (k : ℕ) (e : k ≡ numberAt s (at + 42 * half) 21) where
+  abbrev foldings : List Folding
+  foldings = many (foldingAt s) foldingEnd left at
+
+  inside : half < length foldings
+  inside = subst (λ (n : ℕ). half < n) (sym (length-many (foldingAt s) foldingEnd left at)) h
+
+  middle-key : k ≡ getD foldings half (foldingAt s 0) .key
+  middle-key =
+      e ∙ ap (λ (p : ℕ). numberAt s p 21) (sym (past-add 42 half at))
+      ∙ ap (λ (f : Folding). f .key) (sym (getD-many (foldingAt s) foldingEnd left at half (foldingAt s 0) h))
+
+  first-half : take half foldings ≡ many (foldingAt s) foldingEnd half at
+  first-half = take-many (foldingAt s) foldingEnd half left at (omega (arith, h))
+
+  last-half : drop half foldings ≡ many (foldingAt s) foldingEnd (left - half) (at + 42 * half)
+  last-half = drop-many (foldingAt s) foldingEnd left at half ∙ ap (many (foldingAt s) foldingEnd (left - half)) (past-add 42 half at)
+
+  pub fold-first : c < k
+      → (rising (many (foldingAt s) foldingEnd half at) ≡ true) × (foldBy (many (foldingAt s) foldingEnd half at) c ≡ foldBy foldings c)
+  fold-first l = (
+    ap rising (sym first-half) ∙ rising-take half foldings r,
+    ap (λ (fs : List Folding). foldBy fs c) (sym first-half) ∙ fold-take c (foldingAt s 0) half foldings r inside (subst (λ (n : ℕ). c < n) middle-key l),
+  )
+
+  pub fold-last : k ≤ c
+      → (rising (many (foldingAt s) foldingEnd (left - half) (at + 42 * half)) ≡ true)
+      × (foldBy (many (foldingAt s) foldingEnd (left - half) (at + 42 * half)) c ≡ foldBy foldings c)
+  fold-last l = (
+    ap rising (sym last-half) ∙ rising-drop half foldings r,
+    ap (λ (fs : List Folding). foldBy fs c) (sym last-half) ∙ fold-drop c (foldingAt s 0) half foldings r inside (subst (λ (n : ℕ). n ≤ c) middle-key l),
+  )
 
 module _ (s : List ℕ) (c at left : ℕ) (h : 0 < left) (k : ℕ) (e : k ≡ numberAt s at 21) where
   abbrev foldingsLeft : List Folding
@@ -76,9 +153,6 @@ module _ (s : List ℕ) (c at left : ℕ) (h : 0 < left) (k : ℕ) (e : k ≡ nu
 
   pub fold-miss : (k ≡ c → ⊥) → foldBy foldingsNext c ≡ foldBy foldingsLeft c
   fold-miss f = sym (by-key false (ne-eqb _ _ (λ q. f (e ∙ q))))
-
-  pub fold-rest : rising foldingsLeft ≡ true → rising foldingsNext ≡ true
-  fold-rest r = rising-rest (foldingAt s at) foldingsNext (ap rising (sym first-folding) ∙ r)
 
 pub fold-end : (s : List ℕ) (c at left : ℕ) → left ≤ 0 → c ≡ foldBy (many (foldingAt s) foldingEnd left at) c
 unfolding foldBy

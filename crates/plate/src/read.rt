@@ -37,23 +37,31 @@ pub fn flag(plate: &[u8]) -> bool
     bits(plate, FLAG + width_of(plate), 1) == 1
 }
 
-// What a character is folded to. Keys rise, so the first above it ends the search.
+// What a character is folded to. Keys rise: below the first there is none, and any other is sought by halves.
 pub fn fold(plate: &[u8], c: u32) -> u32
     requires { ⌜ accepted (now plate) ≡ true ⌝ }
     ensures { λ r. ⌜ r ≡ foldBy (plateIn (now (plate .entry)) .foldings) c ⌝ }
 {
     let mut at: usize = FOLDINGS;
     let mut left = size(plate, FOLDING_COUNT + width_of(plate), 8);
-    while 0 < left {
-        let key = bits(plate, at, CHARACTER_BITS);
-        if c < key {
-            return c;
+    if left < 1 {
+        return c;
+    }
+    if c < bits(plate, at, CHARACTER_BITS) {
+        return c;
+    }
+    while 1 < left {
+        let half = left / 2;
+        let middle = at + FOLDING_BITS * half;
+        if c < bits(plate, middle, CHARACTER_BITS) {
+            left = half;
+            continue;
         }
-        if key == c {
-            return bits(plate, at + CHARACTER_BITS, CHARACTER_BITS);
-        }
-        at += FOLDING_BITS;
-        left -= 1;
+        at = middle;
+        left -= half;
+    }
+    if bits(plate, at, CHARACTER_BITS) == c {
+        return bits(plate, at + CHARACTER_BITS, CHARACTER_BITS);
     }
     c
 }
