@@ -3,7 +3,7 @@ ghost use mathlib.Core.Path.{_≡_};
 ghost use mathlib.Core.Bool.{true};
 ghost use Prim.Native.Nat.{_+_, _*_, _/_, _≤_, _<_};
 ghost use lib.ListN.{length};
-ghost use Rattle.plate.specs.Most.{mostRules};
+ghost use Rattle.plate.specs.Most.{mostRules, fewRules};
 ghost use Rattle.plate.specs.Read.{plateIn, accepted, mostOf};
 ghost use Rattle.plate.specs.Noted.{Noted};
 ghost use Rattle.coder.specs.Walk.{uses};
@@ -15,8 +15,8 @@ use super::name::prepare;
 use super::run::run;
 use super::write::write;
 use chars::lower::lowers;
+use plate::FEW_RULES;
 use plate::MOST_RULES;
-use plate::MOST_RULES_1;
 use plate::NOTED;
 use plate::accept::accept_noting;
 use plate::edition::most_rules;
@@ -92,10 +92,10 @@ fn code_noting(plate: &[u8], places: &mut [u32], name: &[u8], out: &mut [u8], mo
 
 // The same by a plate of few rules: room for few is cleared.
 fn code_few(plate: &[u8], name: &[u8], out: &mut [u8], most: usize) -> Coded
-    requires { ⌜ mostOf (now plate) ≤ 512 ⌝ }
+    requires { ⌜ mostOf (now plate) ≤ fewRules ⌝ }
     ensures { λ r. ⌜ told r (now (out .exit)) ≡ codeAnswer most (now (plate .entry)) (now (name .entry)) (now (out .entry)) ⌝ }
 {
-    let mut places = [0u32; MOST_RULES_1];
+    let mut places = [0u32; FEW_RULES];
     code_noting(plate, &mut places, name, out, most)
 }
 
@@ -113,7 +113,7 @@ fn code_name(plate: &[u8], name: &[u8], out: &mut [u8], most: usize) -> Coded
     ensures { λ r. ⌜ told r (now (out .exit)) ≡ codeAnswer most (now (plate .entry)) (now (name .entry)) (now (out .entry)) ⌝ }
 {
     let rules = most_rules(plate);
-    if rules <= MOST_RULES_1 {
+    if rules <= FEW_RULES {
         return code_few(plate, name, out, most);
     }
     code_many(plate, name, out, most)

@@ -1,11 +1,15 @@
 -- The most bits that a part of a plate takes, and so the farthest place in one. Bounds on places are written in these words, so that sums of places stay
 -- small: they come from the table's limits, and not from what the counts' widths could say. Assumes nothing.
 use Prim.Native.Nat.{ℕ, _+_, _*_}
-use Rattle.plate.specs.Plate.{edition2, mostBytes, mostAlternatives, mostDigits, mostFoldings}
+use Rattle.plate.specs.Plate.{edition1, edition2, mostBytes, mostAlternatives, mostDigits, mostFoldings}
 
 -- the most rules of any edition
 abbrev pub mostRules : ℕ
 mostRules = edition2 .most
+
+-- few rules, as most plates have
+abbrev pub fewRules : ℕ
+fewRules = edition1 .most
 
 -- "3 bits digit count and 4 bits a digit"
 abbrev pub alternativeMost : ℕ

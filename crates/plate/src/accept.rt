@@ -7,7 +7,7 @@ ghost use lib.Dec.{ltb};
 ghost use lib.ListN.{length, replicate};
 ghost use Rattle.plate.specs.Bits.{numberAt};
 ghost use Rattle.plate.specs.Plate.{nonzeroScalar, goodFolding, mostFoldings, mostDigits};
-ghost use Rattle.plate.specs.Most.{mostRules, alternativeMost, fieldMost, ruleMost, foldingsMost, plateMost, farthest};
+ghost use Rattle.plate.specs.Most.{mostRules, fewRules, alternativeMost, fieldMost, ruleMost, foldingsMost, plateMost, farthest};
 ghost use Rattle.plate.specs.Read.{foldingAt, foldingsPlace, closed, acceptedIn, countWidth, mostOf, accepted};
 ghost use Rattle.plate.specs.Window.{Holds};
 ghost use Rattle.plate.specs.Answers.{bytesAt, lastDigits, upTo, alternativeStep, fieldStep, fieldsStep, firstOf, ruleMade, seenTo, rulesStep, foldingsGood, keyBehind, edition};
@@ -17,6 +17,7 @@ use super::COUNT_BITS_1;
 use super::COUNT_BITS_2;
 use super::EDITION_1;
 use super::EDITION_2;
+use super::FEW_RULES;
 use super::FOLDING_BITS;
 use super::FOLDINGS;
 use super::First;
@@ -390,10 +391,10 @@ pub fn accept_noting(plate: &[u8], places: &mut [u32], groups: &mut [u32]) -> bo
 
 // The bytes are a plate, of an edition of few rules: room for few is cleared.
 fn accept_few(plate: &[u8]) -> bool
-    requires { ⌜ mostOf (now plate) ≤ 512 ⌝ }
+    requires { ⌜ mostOf (now plate) ≤ fewRules ⌝ }
     ensures { λ r. ⌜ r ≡ accepted (now (plate .entry)) ⌝ }
 {
-    let mut places = [0u32; MOST_RULES_1];
+    let mut places = [0u32; FEW_RULES];
     let mut groups = [0u32; NOTED];
     accept_noting(plate, &mut places, &mut groups)
 }
@@ -413,7 +414,7 @@ pub fn accept(plate: &[u8]) -> bool
     ensures { λ r. ⌜ r ≡ accepted (now (plate .entry)) ⌝ }
 {
     let most = most_rules(plate);
-    if most <= MOST_RULES_1 {
+    if most <= FEW_RULES {
         return accept_few(plate);
     }
     accept_many(plate)

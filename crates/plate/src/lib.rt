@@ -14,13 +14,16 @@ pub const EDITION_1: u32 = 1;
 
 pub const COUNT_BITS_1: usize = 10;
 
-pub const MOST_RULES_1: usize = 512;
+pub const MOST_RULES_1: usize = FEW_RULES;
 
 pub const EDITION_2: u32 = 2;
 
 pub const COUNT_BITS_2: usize = 11;
 
 pub const MOST_RULES: usize = 1500;
+
+// Few rules, as most plates have: where one has no more, room for no more is cleared.
+pub const FEW_RULES: usize = 512;
 
 // "pattern 1 to 16 bytes, 1 to 8 alternatives, 0 to 6 digits, [..] 128 foldings"
 pub const MOST_BYTES: usize = 16;
