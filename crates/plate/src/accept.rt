@@ -40,6 +40,7 @@ use super::plain::plain_code;
 use super::plain::plain_fields;
 use super::plain::plain_key;
 use super::plain::short_field;
+use super::plain::single_fields;
 use super::reader;
 use super::window::part;
 use super::window::window;
@@ -161,6 +162,24 @@ fn any_rule(plate: &[u8], at: usize) -> Seen
     Seen::Good(code, length, next)
 }
 
+// A rule near the end, where a window has zeros behind the last byte; a plain one by its shape.
+fn end_rule(plate: &[u8], at: usize) -> Seen
+    requires { ⌜ at ≤ plateMost ⌝ }
+    ensures { λ r. ⌜ (r ≡ ruleMade (now (plate .entry)) at) × seenTo r (at + ruleMost) ⌝ }
+{
+    let w = window(plate, at);
+    let length = part(w, 0, 5) as usize;
+    let code = plain_code(w << 5, length);
+    if code == 0 {
+        return any_rule(plate, at);
+    }
+    let bits = single_fields(window(plate, at + 5 + 8 * length));
+    if bits == 0 {
+        return any_rule(plate, at);
+    }
+    Seen::Good(code, length, at + 5 + 8 * length + bits)
+}
+
 // The rule at a place; a plain one, far from the end, by its shape. The last window over it begins no later than 149 bits behind its place, and is eight
 // bytes long: 27 bytes are read at most.
 fn accept_rule(plate: &[u8], at: usize) -> Seen
@@ -168,7 +187,7 @@ fn accept_rule(plate: &[u8], at: usize) -> Seen
     ensures { λ r. ⌜ (r ≡ ruleMade (now (plate .entry)) at) × seenTo r (at + ruleMost) ⌝ }
 {
     if plate.len() < at / 8 + 27 {
-        return any_rule(plate, at);
+        return end_rule(plate, at);
     }
     let w = window_in(plate, at);
     let length = part(w, 0, 5) as usize;

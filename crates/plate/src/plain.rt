@@ -165,9 +165,22 @@ fn is_empty(w: u64) -> bool
     w < 0x1200000000000000
 }
 
-// The bits of three such fields, of which the first has a digit: the shape of four rules in five.
+// So does a field of one alternative of two digits: 0001, 010, and two digits of 0 to 9.
+fn is_pair(w: u64) -> bool
+    ensures { λ r. ⌜ (r ≡ true → Takes fieldStep 15 w 15) ⌝ }
+{
+    if w < 0x1400000000000000 {
+        return false;
+    }
+    if 0x1540000000000000 <= w {
+        return false;
+    }
+    (w >> 49) % 16 <= 9
+}
+
+// The bits of three such fields, of which the first has a digit: the shape of nine rules in ten.
 fn quick_fields(w: u64) -> usize
-    ensures { λ r. ⌜ (r ≤ 33) × Takes fieldsStep 33 w r ⌝ }
+    ensures { λ r. ⌜ (r ≤ 41) × Takes fieldsStep 41 w r ⌝ }
 {
     if is_digit(w) {
         if is_digit(w << 11) {
@@ -182,6 +195,12 @@ fn quick_fields(w: u64) -> usize
         if is_empty(w << 11) {
             if is_empty(w << 18) {
                 return 25;
+            }
+            return 0;
+        }
+        if is_pair(w << 11) {
+            if is_pair(w << 26) {
+                return 41;
             }
         }
     }
@@ -224,7 +243,7 @@ fn single_field(w: u64) -> usize
 }
 
 // The bits of three such fields.
-fn single_fields(w: u64) -> usize
+pub(crate) fn single_fields(w: u64) -> usize
     ensures { λ r. ⌜ (r ≤ 45) × Takes fieldsStep 45 w r ⌝ }
 {
     let start = single_field(w);

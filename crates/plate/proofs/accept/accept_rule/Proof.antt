@@ -1,4 +1,4 @@
--- `plate::accept::accept_rule` meets its contract: a plain pattern and plain fields are those of the definition (Accepted.rule-good); any other rule is left to `any_rule`. Assumes nothing.
+-- `plate::accept::accept_rule` meets its contract: a plain pattern and plain fields are those of the definition (Accepted.rule-good); any other rule is left to `any_rule`, one near the end to `end_rule`. Assumes nothing.
 use Prim.Native.Nat.{ℕ, _+_, _*_, _≤_}
 use mathlib.Core.Path.{_≡_, refl, _∙_, ap}
 use native.Mathlib.Nat.{add-zero}
@@ -39,8 +39,8 @@ is-code c =
 add-if1 : tie.Need-add-if1
 add-if1 c = search needs
 
-any-rule-requires : tie.Need-any-rule-requires
-any-rule-requires c κs = search needs
+end-rule-requires : tie.Need-end-rule-requires
+end-rule-requires c κs = search needs
 
 returns : tie.Need-returns
 returns c = search needs
@@ -54,8 +54,8 @@ part-requires c κs = search needs
 plain-code-requires : tie.Need-plain-code-requires
 plain-code-requires c κs = search needs
 
-any-rule-requires-2 : tie.Need-any-rule-requires-2
-any-rule-requires-2 c κs = search needs
+any-rule-requires : tie.Need-any-rule-requires
+any-rule-requires c κs = search needs
 
 returns-2 : tie.Need-returns-2
 returns-2 c = search needs
@@ -77,8 +77,8 @@ plain-fields-requires c κs =
     let room = far .if1 .left in
     (omega arith, omega arith)
 
-any-rule-requires-3 : tie.Need-any-rule-requires-3
-any-rule-requires-3 c κs = search needs
+any-rule-requires-2 : tie.Need-any-rule-requires-2
+any-rule-requires-2 c κs = search needs
 
 returns-3 : tie.Need-returns-3
 returns-3 c = search needs
@@ -116,18 +116,18 @@ accept-rule-spec =
     tie.close
     (tie.spec
     add-if1
-    any-rule-requires
+    end-rule-requires
     returns
     window-in-requires
     part-requires
     plain-code-requires
-    any-rule-requires-2
+    any-rule-requires
     returns-2
     add-plain-fields
     mul-plain-fields
     add-plain-fields-2
     plain-fields-requires
-    any-rule-requires-3
+    any-rule-requires-2
     returns-3
     add-t9
     mul-t7

@@ -20,7 +20,7 @@ returns c =
     let few = bits .ensures .0 in
     let s = a .plate .now in
     let w = seen .window-in in
-    (omega arith, λ some. bits .ensures .1 some s (a .at) (front s (a .at) 57 (w .result) (w .ensures) (omega arith) 33 (omega arith)))
+    (omega arith, λ some. bits .ensures .1 some s (a .at) (front s (a .at) 57 (w .result) (w .ensures) (omega arith) 41 (omega arith)))
 
 single-fields-requires : tie.Need-single-fields-requires
 single-fields-requires c κs = tt
