@@ -206,11 +206,11 @@ module _ (s : List ℕ) (at n w : ℕ) (some : 2 ≤ n) (range : Double w) (held
   pub double-turn : goodText (bytesAt s (n - 2) (at + 16)) ≡ goodText (bytesAt s n at)
   double-turn = text-turn s n at (omega (arith, some)) _ double (lead % 32 * 64 + second % 64) 2 refl
 
-  -- Where all is text, they are the first code point.
-  pub double-first : n ≤ 6 → goodText (bytesAt s n at) ≡ true → FirstIs.Code (lead % 32 * 64 + w / 281474976710656 % 64) ≡ firstOf (bytesAt s n at)
-  double-first few good =
+  -- Where those behind them are text, they are the first code point.
+  pub double-first : n ≤ 6 → goodText (bytesAt s (n - 2) (at + 16)) ≡ true → FirstIs.Code (lead % 32 * 64 + w / 281474976710656 % 64) ≡ firstOf (bytesAt s n at)
+  double-first few rest =
       ap FirstIs.Code {x = lead % 32 * 64 + w / 281474976710656 % 64} {y = lead % 32 * 64 + second % 64} (omega arith)
-      ∙ first-decided s n at (omega (arith, some)) (omega (arith, few)) _ double (lead % 32 * 64 + second % 64) 2 refl true (sym (double-turn ∙ good)) true refl
+      ∙ first-decided s n at (omega (arith, some)) (omega (arith, few)) _ double (lead % 32 * 64 + second % 64) 2 refl true (sym rest) true refl
 
 pub pass-two : (w : ℕ) → Double w → Passes 2 w
 pass-two w range s at n some held = double-turn s at n w some range held

@@ -3,7 +3,7 @@
 ghost use mathlib.Core.Path.{_≡_};
 ghost use mathlib.Core.Bool.{true};
 ghost use mathlib.Core.List.{List};
-ghost use Prim.Native.Nat.{ℕ, _+_, _*_, _/_, _≤_};
+ghost use Prim.Native.Nat.{ℕ, _+_, _-_, _*_, _/_, _≤_};
 ghost use lib.ListN.{length};
 ghost use Rattle.plate.specs.Most.{farthest};
 ghost use Rattle.plate.specs.Window.{Holds};
@@ -111,19 +111,34 @@ fn short_text(w: u64, n: usize) -> bool
     true
 }
 
+// Those of n bytes that stand behind a character of two; mostly there are none.
+fn text_behind(w: u64, n: usize) -> bool
+    requires { ⌜ (2 ≤ n) × (n ≤ 6) ⌝ }
+    ensures { λ r. ⌜ (r ≡ true → (s : List ℕ) (at : ℕ) → Holds s at (8 * n) w → goodText (bytesAt s (n - 2) (at + 16)) ≡ true) ⌝ }
+{
+    if n == 2 {
+        return true;
+    }
+    short_text(w << 16, n - 2)
+}
+
 // The first code point of n such bytes.
 fn short_code(w: u64, n: usize) -> u32
     requires { ⌜ (1 ≤ n) × (n ≤ 6) ⌝ }
     ensures { λ r. ⌜ ((r ≡ 0 → ⊥) → (s : List ℕ) (at : ℕ) → Holds s at (8 * n) w → Code r ≡ firstOf (bytesAt s n at)) ⌝ }
 {
+    if is_double(w) {
+        if n < 2 {
+            return 0;
+        }
+        if text_behind(w, n) {
+            return ((w >> 56) % 32 * 64 + (w >> 48) % 64) as u32;
+        }
+        return 0;
+    }
     if short_text(w, n) {
         if is_ascii(w) {
             return (w >> 56) as u32;
-        }
-        if is_double(w) {
-            if 2 <= n {
-                return ((w >> 56) % 32 * 64 + (w >> 48) % 64) as u32;
-            }
         }
     }
     0

@@ -1,4 +1,5 @@
--- `plate::accept::accept_rule` meets its contract: a plain pattern and plain fields are those of the definition (Accepted.rule-good); any other rule is left to `any_rule`, one near the end to `end_rule`. Assumes nothing.
+-- `plate::accept::accept_rule` meets its contract: a plain pattern and plain fields are those of the definition (Accepted.rule-good); any other rule is left
+-- to `any_rule`, one near the end to `end_rule`. Assumes nothing.
 use Prim.Native.Nat.{ℕ, _+_, _*_, _≤_}
 use mathlib.Core.Path.{_≡_, refl, _∙_, ap}
 use native.Mathlib.Nat.{add-zero}
