@@ -50,7 +50,7 @@ pub record Placed (s : List ℕ) (from n : ℕ) (places : List ℕ) : Type 0 whe
   pub room : n ≤ length places
   pub at : (i : ℕ) → i < n → getD places i 0 ≡ past (ruleEnd s) i from
 
--- The groups of the first characters are noted, those that a name may hold, each in one number: its first rule times `half`, and the rule behind its last.
+-- The groups of the first characters are noted, those of the first lowercase table, each in one number: its first rule times `half`, and the rule behind its last.
 abbrev pub notedCharacters : ℕ
 notedCharacters = latinEnd
 

@@ -9,6 +9,8 @@ pub mod note; // note.rt: what is noted of the rules of a plate while it is acce
 pub mod accept; // accept.rt: which bytes are a plate
 pub mod read; // read.rt: what an accepted plate says, part by part
 
+use chars::LATIN;
+
 // An edition: its number, the width of its rule count in bits, and the most rules. Edition 2 has more than edition 1 can have.
 pub const EDITION_1: u32 = 1;
 
@@ -41,8 +43,8 @@ pub const FOLDING_BITS: usize = 2 * CHARACTER_BITS;
 
 pub const FOLDINGS: usize = 32;
 
-// The first characters, those that a name may hold: their groups are noted.
-pub const NOTED: usize = 384;
+// The characters whose groups are noted: those of the first lowercase table. The group of any other is sought by halves.
+pub const NOTED: usize = LATIN;
 
 // The place behind what was accepted, or nowhere.
 pub enum Step {

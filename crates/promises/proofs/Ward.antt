@@ -19,7 +19,7 @@ use Rattle.plate.specs.Read.{plateIn, accepted}
 use Rattle.plate.proofs.Packed.{Bytes}
 use Rattle.coder.specs.Answer.{Coded, joined, listAnswer}
 use Rattle.coder.proofs.Demands.{gives}
-use Rattle.ward.specs.Ward.{Written, unwritten, written, newline, names, listBytes, lineBytes, mostNames, refusal, lineOf, given, line, wardAnswer}
+use Rattle.ward.specs.Ward.{Written, unwritten, written, newline, names, listBytes, lineBytes, mostNames, refusedLine, lineOf, given, line, wardAnswer}
 use Rattle.ward.proofs.Names.{names-closed, names-last, no-names}
 use Rattle.ward.proofs.Lines.{any-buffer, given-fits}
 use Rattle.zengilvar.specs.Numbers.{coded}
@@ -111,7 +111,7 @@ joined-unbroken [] e h = h
 joined-unbroken (c ∷ []) e h = code-unbroken c (e .0) h
 joined-unbroken (c ∷ d ∷ cs) e h = barred-unbroken c (joined (d ∷ cs)) (code-unbroken c (e .0)) (joined-unbroken (d ∷ cs) (e .1)) h
 
-refusal-unbroken : (n : ℕ) → Unbroken (refusal n)
+refusal-unbroken : (n : ℕ) → Unbroken (refusedLine n)
 refusal-unbroken n (inl e) = absurd (omega arith)
 refusal-unbroken n (inr (inl e)) = absurd (omega arith)
 refusal-unbroken n (inr (inr (inl e))) = absurd (omega arith)
@@ -120,8 +120,8 @@ refusal-unbroken n (inr (inr (inr h))) = h
 line-unbroken : (plate name lent : List ℕ) → Bytes plate → Unbroken (lineOf (listAnswer plate name lent))
 line-unbroken plate name lent bytes = go (listAnswer plate name lent .number) refl
   where
-    refused : (a : Coded) (n : ℕ) → a .number ≡ suc n → refusal (a .number) ≡ lineOf a
-    refused a n e = sym (ap (λ (t : Bool). cond t (take (7 * a .count - 1) (a .buffer)) (refusal (a .number))) (ne-eqb (a .number) 0 (λ z. omega arith)))
+    refused : (a : Coded) (n : ℕ) → a .number ≡ suc n → refusedLine (a .number) ≡ lineOf a
+    refused a n e = sym (ap (λ (t : Bool). cond t (take (7 * a .count - 1) (a .buffer)) (refusedLine (a .number))) (ne-eqb (a .number) 0 (λ z. omega arith)))
 
     go : (n : ℕ) → listAnswer plate name lent .number ≡ n → Unbroken (lineOf (listAnswer plate name lent))
     go zero e =

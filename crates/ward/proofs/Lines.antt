@@ -26,7 +26,7 @@ use Rattle.coder.specs.Answer.{Coded, noCodes, noCodesAt, joined, smaller, list
 use Rattle.coder.specs.Given.{usesIn}
 use Rattle.coder.proofs.Joined.{Six, joined-length}
 use Rattle.coder.proofs.Demands.{filled, gives}
-use Rattle.ward.specs.Ward.{listBytes, refusal, lineOf}
+use Rattle.ward.specs.Ward.{listBytes, refusedLine, lineOf}
 use Rattle.ward.specs.Puts.{Puts}
 
 -- ---- codes have six digits
@@ -78,10 +78,10 @@ by-answer P refuses lists plate name = by-plate (readPlate plate)
     by-plate (some p) = by-name (p .rules) (named p name)
 
 -- The line of what it lists: its codes, or that there is no room.
-listed-line : (us : List Use) (lent : List ℕ) → lineOf (listed us lent) ≡ cond (over (room lent) us start) (refusal 12) (joined (codes us))
+listed-line : (us : List Use) (lent : List ℕ) → lineOf (listed us lent) ≡ cond (over (room lent) us start) (refusedLine 12) (joined (codes us))
 listed-line us lent = go (over (room lent) us start)
   where
-    go : (t : Bool) → lineOf (cond t (noCodes 12 lent) (listing (codes us) lent)) ≡ cond t (refusal 12) (joined (codes us))
+    go : (t : Bool) → lineOf (cond t (noCodes 12 lent) (listing (codes us) lent)) ≡ cond t (refusedLine 12) (joined (codes us))
     go true = refl
     go false = take-at (joined (codes us)) (drop (length (joined (codes us))) lent) (7 * length (codes us) - 1) (joined-long us)
 
@@ -94,7 +94,7 @@ same-room lent lent′ e = ap (λ (n : ℕ). smaller 64 ((n + 1) / 7)) e
 pub any-buffer : (plate name lent lent′ : List ℕ) → length lent ≡ length lent′ → lineOf (listAnswer plate name lent) ≡ lineOf (listAnswer plate name lent′)
 any-buffer plate name lent lent′ e =
     by-answer (λ (f : List ℕ → Coded). lineOf (f lent) ≡ lineOf (f lent′)) (λ number place. refl)
-    (λ us. listed-line us lent ∙ ap (λ (n : ℕ). cond (over n us start) (refusal 12) (joined (codes us))) (same-room lent lent′ e) ∙ sym (listed-line us lent′))
+    (λ us. listed-line us lent ∙ ap (λ (n : ℕ). cond (over n us start) (refusedLine 12) (joined (codes us))) (same-room lent lent′ e) ∙ sym (listed-line us lent′))
     plate name
 
 -- Where list refuses, every byte is as lent.
@@ -116,7 +116,7 @@ codes-stand plate name lent =
     (λ us. some-stand us (over (room lent) us start)) plate name
   where
     none-stand : (number place : ℕ) → number ≡ 0 → Puts (lineOf (noCodesAt number place lent)) 0 lent lent
-    none-stand number place e = subst (λ (l : List ℕ). Puts l 0 lent lent) (ap (λ (t : Bool). cond t [] (refusal number)) (sym (eq-eqb number 0 e))) (record { count = refl; is = refl })
+    none-stand number place e = subst (λ (l : List ℕ). Puts l 0 lent lent) (ap (λ (t : Bool). cond t [] (refusedLine number)) (sym (eq-eqb number 0 e))) (record { count = refl; is = refl })
 
     some-stand : (us : List Use) (t : Bool) → let a = cond t (noCodes 12 lent) (listing (codes us) lent) in a .number ≡ 0 → Puts (lineOf a) (7 * a .count - 1) lent (a .buffer)
     some-stand us true e = absurd (omega arith)
@@ -138,9 +138,9 @@ few-codes us lent e o =
 pub given-fits : (plate name lent : List ℕ) → length lent ≡ listBytes → length (lineOf (listAnswer plate name lent)) ≤ listBytes
 given-fits plate name lent e =
     by-answer (λ (f : List ℕ → Coded). length (lineOf (f lent)) ≤ listBytes)
-    (λ number place. by-test (λ (l : List ℕ). length l ≤ listBytes) (eqb number 0) [] (refusal number) (λ t. omega arith) (λ t. omega arith))
+    (λ number place. by-test (λ (l : List ℕ). length l ≤ listBytes) (eqb number 0) [] (refusedLine number) (λ t. omega arith) (λ t. omega arith))
     (λ us. subst (λ (l : List ℕ). length l ≤ listBytes) (sym (listed-line us lent))
-    (by-test (λ (l : List ℕ). length l ≤ listBytes) (over (room lent) us start) (refusal 12) (joined (codes us)) (λ t. omega arith)
+    (by-test (λ (l : List ℕ). length l ≤ listBytes) (over (room lent) us start) (refusedLine 12) (joined (codes us)) (λ t. omega arith)
     (λ t. let n = joined-long us in let m = few-codes us lent e t in omega arith)))
     plate name
 

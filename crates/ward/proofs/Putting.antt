@@ -8,7 +8,7 @@ use lib.Seq.{drop-cons, drop-drop, drop-append-le, set-at, take-at, drop-at, len
 use Rattle.laws.specs.Lists.{cat}
 use Rattle.laws.proofs.Lists.{rest}
 use Rattle.coder.specs.Answer.{Coded, listAnswer}
-use Rattle.ward.specs.Ward.{names, listBytes, lineBytes, refusal, lineOf, given, line}
+use Rattle.ward.specs.Ward.{names, listBytes, lineBytes, refusedLine, lineOf, given, line}
 use Rattle.ward.specs.Puts.{Puts}
 use Rattle.ward.proofs.Lines.{any-buffer, refused-lent, codes-stand, given-fits, some-code}
 
@@ -106,8 +106,8 @@ module _ (plate name out : List ℕ) (long : lineBytes ≤ length out) (a : Code
       (ap (λ (x : Coded). x .buffer) e ∙ refused-lent plate name (take listBytes out) (λ z. h (ap (λ (x : Coded). x .number) e ∙ z)))
       ∙ take-append-drop listBytes out
 
-  pub puts-refusal : (n : ℕ) (lent buffer : List ℕ) → lineOf a ≡ refusal (a .number) → lent ≡ out → Puts (refusal (a .number)) n lent buffer → Puts (given plate name) n out buffer
-  puts-refusal n lent buffer f g p = subst (λ (l : List ℕ). Puts l n out buffer) (sym f ∙ is-given) (subst (λ (l : List ℕ). Puts (refusal (a .number)) n l buffer) g p)
+  pub puts-refusal : (n : ℕ) (lent buffer : List ℕ) → lineOf a ≡ refusedLine (a .number) → lent ≡ out → Puts (refusedLine (a .number)) n lent buffer → Puts (given plate name) n out buffer
+  puts-refusal n lent buffer f g p = subst (λ (l : List ℕ). Puts l n out buffer) (sym f ∙ is-given) (subst (λ (l : List ℕ). Puts (refusedLine (a .number)) n l buffer) g p)
 
 -- ---- the lines of all names
 

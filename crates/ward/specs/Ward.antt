@@ -31,12 +31,12 @@ abbrev pub listBytes : ℕ
 listBytes = 447
 
 -- "`!` and the refusal in two digits"
-abbrev pub refusal : ℕ → List ℕ
-refusal number = 33 ∷ (48 + number / 10) ∷ (48 + number % 10) ∷ []
+abbrev pub refusedLine : ℕ → List ℕ
+refusedLine number = 33 ∷ (48 + number / 10) ∷ (48 + number % 10) ∷ []
 
 -- "its list, or" that
 abbrev pub lineOf : Coded → List ℕ
-lineOf a = cond (eqb (a .number) 0) (take (7 * a .count - 1) (a .buffer)) (refusal (a .number))
+lineOf a = cond (eqb (a .number) 0) (take (7 * a .count - 1) (a .buffer)) (refusedLine (a .number))
 
 -- "Each line equals what a single list call with 447 bytes gives"; which bytes are lent does not matter (proofs/Lines.antt)
 unfoldable pub given : List ℕ → List ℕ → List ℕ

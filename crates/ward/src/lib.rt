@@ -7,7 +7,7 @@ ghost use Rattle.laws.specs.Lists.{until, cat};
 ghost use Rattle.plate.specs.Read.{accepted};
 ghost use Rattle.plate.specs.Noted.{Noted};
 ghost use Rattle.coder.specs.Answer.{smaller};
-ghost use Rattle.ward.specs.Ward.{newline, names, refusal, given, line, lineBytes, mostNames, wardAnswer};
+ghost use Rattle.ward.specs.Ward.{newline, names, refusedLine, given, line, lineBytes, mostNames, wardAnswer};
 ghost use Rattle.ward.specs.Puts.{Puts};
 ghost use Rattle.ward.specs.Outcome.{told};
 use chars::scan::count_until;
@@ -59,7 +59,7 @@ fn count_names(bytes: &[u8]) -> usize
 // `!` and a refusal in two digits, to the front of a line; how many bytes.
 fn put_refusal(out: &mut [u8], number: u8) -> usize
     requires { ⌜ (3 ≤ length (now out)) × (number < 100) ⌝ }
-    ensures { λ r. ⌜ Puts (refusal number) r (now (out .entry)) (now (out .exit)) ⌝ }
+    ensures { λ r. ⌜ Puts (refusedLine number) r (now (out .entry)) (now (out .exit)) ⌝ }
 {
     out[0] = b'!';
     out[1] = b'0' + number / 10;
