@@ -8,7 +8,8 @@ use denote.Ref.{RefT, now}
 use Rattle.laws.proofs.Only.{only}
 use Rattle.chars.specs.Utf8.{charOf}
 use Rattle.plate.specs.Bits.{numberAt}
-use Rattle.plate.specs.Read.{patternAt, ruleAt, foldingAt, foldBy, rulesPlace, countWidth, accepted, plateIn}
+use Rattle.plate.specs.Most.{mostRules}
+use Rattle.plate.specs.Read.{patternAt, ruleAt, foldingAt, foldBy, rulesPlace, countWidth, mostOf, accepted, plateIn}
 use Rattle.plate.specs.Answers.{bytesAt, frontOf, frontTo, goodText, HeadIs}
 use Rattle.plate.specs.Stands.{Stands, LetterIs, fieldOf, heldField}
 use Rattle.plate.specs.declared.edition.Head.{Head}
@@ -34,6 +35,9 @@ module _ (s : List ℕ) where
 
   pub head-of : (rules : ℕ) (r r′ : Head) → HeadIs rules r → HeadIs rules r′ → r ≡ r′
   head-of rules r r′ e f = λ i. record { number = only (e .number) (f .number) i; width = only (e .width) (f .width) i }
+
+  pub most-rules : (r r′ : ℕ) → (r ≡ mostOf s) × (r ≤ mostRules) → (r′ ≡ mostOf s) × (r′ ≤ mostRules) → r ≡ r′
+  most-rules r r′ e f = only (e .0) (f .0)
 
   pub accept : (r r′ : Bool) → r ≡ accepted s → r′ ≡ accepted s → r ≡ r′
   accept r r′ e f = only e f
