@@ -43,6 +43,7 @@ void places(void);
 void limits(void);
 void plates(void);
 void wards(void);
+void pages(void);
 void words(void);
 
 #endif

@@ -80,6 +80,7 @@ int main(void) {
     limits();
     plates();
     wards();
+    pages();
     words();
     printf("%s: %d checks, %d failed\n", language, checks, failed);
     return failed == 0 ? 0 : 1;
