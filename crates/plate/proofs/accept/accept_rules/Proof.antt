@@ -2,16 +2,19 @@
 -- Assumes nothing.
 use Prim.Native.Nat.{ℕ, _+_, _-_, _*_, _≤_, _<_}
 use mathlib.Core.Path.{_≡_, refl, sym, _∙_, ap, subst}
-use mathlib.Core.Logic.{inl, inr}
+use mathlib.Core.Bool.{true, false}
+use mathlib.Core.Logic.{_⊎_, inl, inr}
 use mathlib.Core.List.{List}
 use native.Mathlib.Nat.{sub-zero}
 use native.Mathlib.Omega.{arith}
 use borrow.Author.Needs.{needs}
 use borrow.Author.Tests.{lt-ltb, le-ltb, le-leb, lt-leb}
 use lib.ListN.{length, set, length-set, length-replicate}
-use Rattle.plate.specs.Answers.{rulesStep}
+use Rattle.plate.specs.Answers.{seenTo, inOrder, rulesStep}
 use Rattle.plate.specs.Most.{ruleMost}
+use Rattle.plate.specs.declared.Seen.{Seen}
 use Rattle.plate.specs.declared.Seen.the-variants.{Good, Wrong}
+use Rattle.plate.specs.declared.Step.the-variants.{Nowhere}
 use Rattle.plate.specs.Noted.{half, notedCharacters, NotedFrom}
 use Rattle.plate.proofs.Accepted.{made-wrong, order-wrong, order-good, order-same, order-apart, rules-stop, rules-turn, rules-end}
 use Rattle.plate.proofs.Noting.{Going, going-start, going-turn, set-set}
@@ -46,6 +49,81 @@ loop-holds c =
       },
     )
 
+-- Both arrays are as long as they were lent.
+groups-long : (at-loop : tie.At-loop Inv-loop μ-loop) → length (at-loop .loop .groups) ≡ length (at-loop .before .before .before .before .args .groups .now)
+groups-long at-loop =
+    let start = at-loop .before .before .before .before in
+    at-loop .loop .inv .2 .size ∙ sym (ap length (start .pre .2 .clear) ∙ length-replicate {A = ℕ} notedCharacters 0)
+
+-- A rule is good: its first code point, its length and the place behind it are known.
+module _ (known : tie.After-c Inv-loop μ-loop) where
+  abbrev seen : tie.After-accept-rule Inv-loop μ-loop
+  seen = known .before .before
+
+  abbrev at-loop : tie.At-loop Inv-loop μ-loop
+  at-loop = seen .before .before
+
+  abbrev start : tie.Start Inv-loop μ-loop
+  start = at-loop .before .before .before .before
+
+  abbrev s : List ℕ
+  s = start .args .plate .now
+
+  abbrev n : ℕ
+  n = start .args .n
+
+  abbrev first : ℕ
+  first = known .c .given .0 .0
+
+  abbrev bytes : ℕ
+  bytes = known .c .given .0 .1 .0
+
+  abbrev next : ℕ
+  next = known .c .given .0 .1 .1 .0
+
+  going : at-loop .loop .i < n
+  going = seen .before .loop-test .taken
+
+  more : 0 < n - at-loop .loop .i
+  more = omega (arith, going)
+
+  near : next ≤ at-loop .loop .at + ruleMost
+  near = subst (λ (x : Seen). seenTo x (at-loop .loop .at + ruleMost)) (known .c .given .1) (seen .accept-rule .ensures .1)
+
+  places-long : let l = at-loop .loop in length (set (l .places) (l .i) (l .at)) ≡ length (start .args .places .now)
+  places-long = let l = at-loop .loop in length-set (l .places) (l .i) (l .at) ∙ l .inv .2 .long
+
+  -- Out of order behind the rule before it, all are refused.
+  refused : inOrder (at-loop .loop .code) (at-loop .loop .length) first bytes ≡ false → Nowhere ≡ rulesStep s (start .args .from) n 0 0
+  refused out =
+      let l = at-loop .loop in
+      let r = seen .accept-rule in
+      let wrong = order-wrong s (l .at) (l .code) (l .length) (r .result) (r .ensures .0) first bytes next (known .c .given .1) out in
+      rules-stop s (l .at) (n - l .i) (l .code) (l .length) more Wrong wrong refl ∙ l .inv .2 .left
+
+  -- In order, its group begun at b, it is passed.
+  passed : (code b : ℕ) (groups : List ℕ) → code ≡ first → inOrder (at-loop .loop .code) (at-loop .loop .length) code bytes ≡ true
+      → ((code ≡ at-loop .loop .code) × (b ≡ at-loop .loop .begun)) ⊎ ((code ≡ at-loop .loop .code → ⊥) × (b ≡ at-loop .loop .i))
+      → length groups ≡ notedCharacters
+      → let l = at-loop .loop in set (set (l .groups) (l .code) (l .begun * half + l .i)) code (b * half + (l .i + 1)) ≡ set groups code (b * half + (l .i + 1))
+      → Kept s (start .args .from) n (start .args .places .now) (set (l .places) (l .i) (l .at)) groups next (l .i + 1) b code bytes
+  passed code b groups is in-order group size same =
+      let l = at-loop .loop in
+      let r = seen .accept-rule in
+      let good : r .result ≡ Good code bytes next = known .c .given .1 ∙ ap (λ (x : ℕ). Good x bytes next) (sym is) in
+      let fits = order-good s (l .at) (l .code) (l .length) (r .result) (r .ensures .0) code bytes next good in-order in
+      let long = l .inv .2 .long in
+      let room : l .i < length (l .places) = omega (arith, going, long, start .pre .2 .room) in record {
+        long = places-long;
+        left = ap (λ (m : ℕ). rulesStep s next m code bytes) {x = n - (l .i + 1)} {y = n - l .i - 1} (omega arith)
+            ∙ rules-turn s (l .at) (n - l .i) (l .code) (l .length) more (Good code bytes next) fits code bytes next refl
+            ∙ l .inv .2 .left;
+        size = size;
+        going = subst (λ (x : List ℕ). Going s (start .args .from) (l .i + 1) next b code (set (l .places) (l .i) (l .at)) x) same
+            (going-turn s (start .args .from) (l .i) (l .at) (l .begun) (l .code) (l .places) (set (l .groups) (l .code) (l .begun * half + l .i)) (l .inv .2 .going) (l .length)
+            (Good code bytes next) fits code bytes next refl b group (omega (arith, going, start .pre .1)) room);
+      }
+
 accept-rule-requires : tie.Need-accept-rule-requires Inv-loop μ-loop
 accept-rule-requires c κs = omega arith
 
@@ -59,10 +137,7 @@ same-length : tie.Need-same-length Inv-loop μ-loop
 same-length c = let at-loop = c .before .before .before .before in at-loop .loop .inv .2 .long
 
 same-length-2 : tie.Need-same-length-2 Inv-loop μ-loop
-same-length-2 c =
-    let at-loop = c .before .before .before .before in
-    let start = at-loop .before .before .before .before in
-    at-loop .loop .inv .2 .size ∙ sym (ap length (start .pre .2 .clear) ∙ length-replicate {A = ℕ} notedCharacters 0)
+same-length-2 c = groups-long (c .before .before .before .before)
 
 returns : tie.Need-returns Inv-loop μ-loop
 returns c =
@@ -87,41 +162,18 @@ slice-write-places : tie.Need-slice-write-places Inv-loop μ-loop
 slice-write-places c = let p = let known = c .before in known .before .before .before .before .loop .inv .2 .long in omega arith
 
 same-length-3 : tie.Need-same-length-3 Inv-loop μ-loop
-same-length-3 c =
-    let tested = c .before in
-    let known = tested .before .before in
-    let seen = known .before .before in
-    let at-loop = seen .before .before in
-    let start = at-loop .before .before .before .before in
-    let l = at-loop .loop in
-    length-set (l .places) (l .i) (l .at) ∙ l .inv .2 .long
+same-length-3 c = let known = c .before .before .before in places-long known
 
 same-length-4 : tie.Need-same-length-4 Inv-loop μ-loop
-same-length-4 c =
-    let tested = c .before in
-    let known = tested .before .before in
-    let seen = known .before .before in
-    let at-loop = seen .before .before in
-    let start = at-loop .before .before .before .before in
-    at-loop .loop .inv .2 .size ∙ sym (ap length (start .pre .2 .clear) ∙ length-replicate {A = ℕ} notedCharacters 0)
+same-length-4 c = let known = c .before .before .before in groups-long (at-loop known)
 
 returns-2 : tie.Need-returns-2 Inv-loop μ-loop
 returns-2 c =
     let same = c .before in
     let known = same .before .before in
-    let seen = known .before .before in
-    let at-loop = seen .before .before in
-    let start = at-loop .before .before .before .before in
-    let a = start .args in
-    let s = a .plate .now in
-    let l = at-loop .loop in
-    let v = known .c .given in
-    let r = seen .accept-rule in
-    let going = seen .before .loop-test .taken in
-    let more : 0 < a .n - l .i = omega (arith, going) in
-    let long = sym (order-same (l .code) (l .length) (v .0 .0) (v .0 .1 .0) (sym (same .if1 .taken))) ∙ lt-leb (v .0 .1 .0) (l .length) (c .if2 .taken) in
-    let wrong = order-wrong s (l .at) (l .code) (l .length) (r .result) (r .ensures .0) (v .0 .0) (v .0 .1 .0) (v .0 .1 .1 .0) (v .1) long in
-    (rules-stop s (l .at) (a .n - l .i) (l .code) (l .length) more Wrong wrong refl ∙ l .inv .2 .left, omega arith, tt)
+    let l = at-loop known .loop in
+    let longer = lt-leb (bytes known) (l .length) (c .if2 .taken) in
+    (refused known (sym (order-same (l .code) (l .length) (first known) (bytes known) (sym (same .if1 .taken))) ∙ longer), omega arith, tt)
 
 add-i : tie.Need-add-i Inv-loop μ-loop
 add-i c = omega arith
@@ -133,78 +185,30 @@ loop-again : tie.Need-loop-again Inv-loop μ-loop
 loop-again c =
     let same = c .before in
     let known = same .before .before in
-    let seen = known .before .before in
-    let at-loop = seen .before .before in
-    let start = at-loop .before .before .before .before in
-    let a = start .args in
-    let s = a .plate .now in
-    let l = at-loop .loop in
-    let v = known .c .given in
-    let r = seen .accept-rule in
-    let going = seen .before .loop-test .taken in
-    let more : 0 < a .n - l .i = omega (arith, going) in
-    let w = rw (v .1) at (r .ensures .1) in
-    let p = l .inv .2 .long in
-    let room : l .i < length (l .places) = omega (arith, going, p, start .pre .2 .room) in
-    let k = v .0 .1 .0 in
-    let next = v .0 .1 .1 .0 in
-    let is-good : r .result ≡ Good (l .code) k next = v .1 ∙ ap (λ (x : ℕ). Good x k next) (same .if1 .taken) in
-    let in-order = sym (order-same (l .code) (l .length) (l .code) k refl) ∙ le-leb k (l .length) (c .if2 .left) in
-    let fits = order-good s (l .at) (l .code) (l .length) (r .result) (r .ensures .0) (l .code) k next is-good in-order in
-    let open-groups = set (l .groups) (l .code) (l .begun * half + l .i) in (
+    let l = at-loop known .loop in
+    let k = bytes known in
+    let w = near known in
+    let in-order = sym (order-same (l .code) (l .length) (l .code) k refl) ∙ le-leb k (l .length) (c .if2 .left) in (
       omega arith,
       omega arith,
-      record {
-        long = length-set (l .places) (l .i) (l .at) ∙ p;
-        left = ap (λ (m : ℕ). rulesStep s next m (l .code) k) {x = a .n - (l .i + 1)} {y = a .n - l .i - 1} (omega arith)
-            ∙ rules-turn s (l .at) (a .n - l .i) (l .code) (l .length) more (Good (l .code) k next) fits (l .code) k next refl
-            ∙ l .inv .2 .left;
-        size = l .inv .2 .size;
-        going = subst (λ (x : List ℕ). Going s (a .from) (l .i + 1) next (l .begun) (l .code) (set (l .places) (l .i) (l .at)) x)
-            (set-set (l .groups) (l .code) (l .begun * half + l .i) (l .begun * half + (l .i + 1)))
-            (going-turn s (a .from) (l .i) (l .at) (l .begun) (l .code) (l .places) open-groups (l .inv .2 .going) (l .length) (Good (l .code) k next) fits (l .code) k next refl
-            (l .begun) (inl (refl, refl)) (omega arith) room);
-      },
+      passed known (l .code) (l .begun) (l .groups) (sym (same .if1 .taken)) in-order (inl (refl, refl)) (l .inv .2 .size)
+          (set-set (l .groups) (l .code) (l .begun * half + l .i) (l .begun * half + (l .i + 1))),
     )
 
 same-length-5 : tie.Need-same-length-5 Inv-loop μ-loop
-same-length-5 c =
-    let tested = c .before in
-    let known = tested .before .before in
-    let seen = known .before .before in
-    let at-loop = seen .before .before in
-    let start = at-loop .before .before .before .before in
-    let l = at-loop .loop in
-    length-set (l .places) (l .i) (l .at) ∙ l .inv .2 .long
+same-length-5 c = let known = c .before .before .before in places-long known
 
 same-length-6 : tie.Need-same-length-6 Inv-loop μ-loop
-same-length-6 c =
-    let tested = c .before in
-    let known = tested .before .before in
-    let seen = known .before .before in
-    let at-loop = seen .before .before in
-    let start = at-loop .before .before .before .before in
-    at-loop .loop .inv .2 .size ∙ sym (ap length (start .pre .2 .clear) ∙ length-replicate {A = ℕ} notedCharacters 0)
+same-length-6 c = let known = c .before .before .before in groups-long (at-loop known)
 
 returns-3 : tie.Need-returns-3 Inv-loop μ-loop
 returns-3 c =
     let apart = c .before in
     let known = apart .before .before in
-    let seen = known .before .before in
-    let at-loop = seen .before .before in
-    let start = at-loop .before .before .before .before in
-    let a = start .args in
-    let s = a .plate .now in
-    let l = at-loop .loop in
-    let v = known .c .given in
-    let r = seen .accept-rule in
-    let going = seen .before .loop-test .taken in
-    let more : 0 < a .n - l .i = omega (arith, going) in
+    let l = at-loop known .loop in
     let other = apart .if1 .left in
-    let low : v .0 .0 ≤ l .code = omega (arith, c .if3 .taken) in
-    let back = sym (order-apart (l .code) (l .length) (v .0 .0) (v .0 .1 .0) (λ e. other (sym e))) ∙ le-ltb (l .code) (v .0 .0) low in
-    let wrong = order-wrong s (l .at) (l .code) (l .length) (r .result) (r .ensures .0) (v .0 .0) (v .0 .1 .0) (v .0 .1 .1 .0) (v .1) back in
-    (rules-stop s (l .at) (a .n - l .i) (l .code) (l .length) more Wrong wrong refl ∙ l .inv .2 .left, omega arith, tt)
+    let low : first known ≤ l .code = omega (arith, c .if3 .taken) in
+    (refused known (sym (order-apart (l .code) (l .length) (first known) (bytes known) (λ e. other (sym e))) ∙ le-ltb (l .code) (first known) low), omega arith, tt)
 
 note-group-requires : tie.Need-note-group-requires Inv-loop μ-loop
 note-group-requires c κs =
@@ -224,39 +228,17 @@ loop-again-2 c =
     let high = noted .before .before in
     let apart = high .before in
     let known = apart .before .before in
-    let seen = known .before .before in
-    let at-loop = seen .before .before in
-    let start = at-loop .before .before .before .before in
-    let a = start .args in
-    let s = a .plate .now in
-    let l = at-loop .loop in
-    let v = known .c .given in
-    let r = seen .accept-rule in
-    let going = seen .before .loop-test .taken in
-    let more : 0 < a .n - l .i = omega (arith, going) in
-    let w = rw (v .1) at (r .ensures .1) in
-    let p = l .inv .2 .long in
-    let room : l .i < length (l .places) = omega (arith, going, p, start .pre .2 .room) in
-    let k = v .0 .1 .0 in
-    let next = v .0 .1 .1 .0 in
+    let l = at-loop known .loop in
+    let k = bytes known in
+    let w = near known in
     let other = apart .if1 .left in
-    let above : l .code < v .0 .0 = omega (arith, other, high .if3 .left) in
-    let in-order = sym (order-apart (l .code) (l .length) (v .0 .0) k (λ e. other (sym e))) ∙ lt-ltb (l .code) (v .0 .0) above in
-    let fits = order-good s (l .at) (l .code) (l .length) (r .result) (r .ensures .0) (v .0 .0) k next (v .1) in-order in
-    let told = noted .note-group .ensures in
-    let open-groups = set (l .groups) (l .code) (l .begun * half + l .i) in (
+    let above : l .code < first known = omega (arith, other, high .if3 .left) in
+    let in-order = sym (order-apart (l .code) (l .length) (first known) k (λ e. other (sym e))) ∙ lt-ltb (l .code) (first known) above in
+    let told = noted .note-group .ensures in (
       omega arith,
       omega arith,
-      record {
-        long = length-set (l .places) (l .i) (l .at) ∙ p;
-        left = ap (λ (m : ℕ). rulesStep s next m (v .0 .0) k) {x = a .n - (l .i + 1)} {y = a .n - l .i - 1} (omega arith)
-            ∙ rules-turn s (l .at) (a .n - l .i) (l .code) (l .length) more (Good (v .0 .0) k next) fits (v .0 .0) k next refl
-            ∙ l .inv .2 .left;
-        size = ap length told ∙ length-set (l .groups) (l .code) (l .begun * half + l .i) ∙ l .inv .2 .size;
-        going = subst (λ (x : List ℕ). Going s (a .from) (l .i + 1) next (l .i) (v .0 .0) (set (l .places) (l .i) (l .at)) (set x (v .0 .0) (l .i * half + (l .i + 1)))) (sym told)
-            (going-turn s (a .from) (l .i) (l .at) (l .begun) (l .code) (l .places) open-groups (l .inv .2 .going) (l .length) (Good (v .0 .0) k next) fits (v .0 .0) k next refl
-            (l .i) (inr (other, refl)) (omega arith) room);
-      },
+      passed known (first known) (l .i) _ refl in-order (inr (other, refl)) (ap length told ∙ length-set (l .groups) (l .code) (l .begun * half + l .i) ∙ l .inv .2 .size)
+          (ap (λ (x : List ℕ). set x (first known) (l .i * half + (l .i + 1))) (sym told)),
     )
 
 note-group-requires-2 : tie.Need-note-group-requires-2 Inv-loop μ-loop
@@ -277,8 +259,7 @@ same-length-8 c =
     let at-loop = noted .before .before .before in
     let start = at-loop .before .before .before .before in
     let l = at-loop .loop in
-    ap length (noted .note-group2 .ensures) ∙ length-set (l .groups) (l .code) (l .begun * half + start .args .n) ∙ l .inv .2 .size
-    ∙ sym (ap length (start .pre .2 .clear) ∙ length-replicate {A = ℕ} notedCharacters 0)
+    ap length (noted .note-group2 .ensures) ∙ length-set (l .groups) (l .code) (l .begun * half + start .args .n) ∙ groups-long at-loop
 
 returns-4 : tie.Need-returns-4 Inv-loop μ-loop
 returns-4 c =
