@@ -19,7 +19,7 @@ use Rattle.plate.specs.Bits.{numberAt}
 use Rattle.plate.specs.Plate.{mostDigits, mostAlternatives, Folding, Rule, Edition, mostBytes, mostFoldings, goodField, goodPattern, goodRule, nonzeroScalar}
 use Rattle.plate.specs.Plate.{goodFolding, rising, firstCode, ordered}
 use Rattle.plate.specs.Read.{foldingsPlace, many, past, alternativeAt, alternativeEnd, fieldAt, fieldEnd, ruleAt, ruleEnd, foldingAt, foldingEnd, ruleCount, foldingCount, reserved}
-use Rattle.plate.specs.Read.{rulesPlace, plateAt, plateEnd, closed, acceptedIn}
+use Rattle.plate.specs.Read.{rulesPlace, plateAt, plateEnd, zeroFilled, acceptedIn}
 use Rattle.plate.specs.Answers.{bytesAt, goodText, codeIf, firstOf, stepIf, upTo, lastDigits, alternativeStep, alternativesStep, fieldStep, fieldsStep, seenIf, inOrder}
 use Rattle.plate.specs.Answers.{ruleFits, ruleMade, ruleSeen, orderedBehind, rulesStep, above, foldingsGood, keyBehind, edition}
 use Rattle.plate.specs.Window.{Holds}
@@ -473,11 +473,11 @@ foldings-start (f ∷ more) = go (goodFolding f) refl
 -- ---- the end, and the whole
 
 module _ (s : List ℕ) (at : ℕ) where
-  pub closed-not : ((at + 7) / 8 ≡ length s → ⊥) → false ≡ closed s at
-  closed-not h = sym (and-left-false _ (eqb (numberAt s at (7 - (at + 7) % 8)) 0) (ne-eqb _ _ h))
+  pub filled-not : ((at + 7) / 8 ≡ length s → ⊥) → false ≡ zeroFilled s at
+  filled-not h = sym (and-left-false _ (eqb (numberAt s at (7 - (at + 7) % 8)) 0) (ne-eqb _ _ h))
 
-  pub closed-is : (at + 7) / 8 ≡ length s → (v : ℕ) → v ≡ numberAt s at (7 - (at + 7) % 8) → eqb v 0 ≡ closed s at
-  closed-is h v e = ap (λ (n : ℕ). eqb n 0) e ∙ sym (and-holds _ (eqb (numberAt s at (7 - (at + 7) % 8)) 0) (eq-eqb _ _ h))
+  pub filled-is : (at + 7) / 8 ≡ length s → (v : ℕ) → v ≡ numberAt s at (7 - (at + 7) % 8) → eqb v 0 ≡ zeroFilled s at
+  filled-is h v e = ap (λ (n : ℕ). eqb n 0) e ∙ sym (and-holds _ (eqb (numberAt s at (7 - (at + 7) % 8)) 0) (eq-eqb _ _ h))
 
 -- Seven tests, as `acceptedIn` joins them.
 module _ (a b c d f g z : Bool) where
@@ -540,7 +540,7 @@ module _ (s : List ℕ) (number w least most : ℕ) where
   t6 = every goodFolding fs && rising fs
 
   abbrev t7 : Bool
-  t7 = closed s (plateEnd w s)
+  t7 = zeroFilled s (plateEnd w s)
 
   pub accept-number : (v : ℕ) → v ≡ numberAt s 0 8 → (v ≡ number → ⊥) → false ≡ acceptedIn e s
   accept-number v i h = sym (seven-1 t1 t2 t3 t4 t5 t6 t7 (ne-eqb _ _ (λ g. h (i ∙ g))))
@@ -577,10 +577,10 @@ module _ (s : List ℕ) (number w least most : ℕ) where
       accept-bad-rule f = sym (seven-4 t1 t2 t3 t4 t5 t6 t7 (nowhere t4 (plateEnd w s) rules-are f))
 
       pub accept-end : (x y : ℕ) → x ≡ numberAt s 0 8 → x ≡ number → y ≡ reserved w s → y ≡ 0 → least ≤ n → n ≤ most → m ≤ mostFoldings → v ≡ true
-          → (end : ℕ) → r ≡ To end → (z : Bool) → z ≡ closed s end → z ≡ acceptedIn e s
+          → (end : ℕ) → r ≡ To end → (z : Bool) → z ≡ zeroFilled s end → z ≡ acceptedIn e s
       accept-end x y a a′ b b′ c c′ d′ f end g z l =
           let t = to t4 (plateEnd w s) end rules-are g in
-          l ∙ ap (closed s) (sym (t .1))
+          l ∙ ap (zeroFilled s) (sym (t .1))
           ∙ sym (seven-all t1 t2 t3 t4 t5 t6 t7 (eq-eqb _ _ (sym a ∙ a′)) (eq-eqb _ _ (sym b ∙ b′))
           (ap (between least most) (rules-counted n j) ∙ is-between least most n c c′)
           (t .0)

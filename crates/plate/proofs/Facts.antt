@@ -16,7 +16,7 @@ use Rattle.plate.specs.Plate.{Edition, edition1, edition2, editionFor, m
 use Rattle.plate.specs.Plate.{goodFoldings, goodRules, goodIn}
 use Rattle.plate.specs.Most.{mostRules, alternativeMost, fieldMost, ruleMost, plateMost}
 use Rattle.plate.specs.Read.{many, alternativeAt, alternativeEnd, fieldAt, fieldEnd, startPlace, vowelPlace, otherPlace, ruleAt, ruleEnd, foldingAt, foldingEnd}
-use Rattle.plate.specs.Read.{ruleCount, foldingCount, reserved, foldingsPlace, rulesPlace, plateAt, plateEnd, closed, acceptedIn, editionOf, countWidth, accepted, plateIn}
+use Rattle.plate.specs.Read.{ruleCount, foldingCount, reserved, foldingsPlace, rulesPlace, plateAt, plateEnd, zeroFilled, acceptedIn, editionOf, countWidth, accepted, plateIn}
 use Rattle.plate.specs.Answers.{goodText}
 use Rattle.plate.specs.Stands.{Stands}
 use Rattle.plate.proofs.Listed.{length-many, past-most}
@@ -28,7 +28,7 @@ module _ (e : Edition) (s : List ℕ) (h : acceptedIn e s ≡ true) where
   pub says-good : goodIn e (plateAt (e .width) s) ≡ true
   says-good =
       let p = plateAt (e .width) s in
-      let z = closed s (plateEnd (e .width) s) in
+      let z = zeroFilled s (plateEnd (e .width) s) in
       let b = and-true (eqb (numberAt s 0 8) (e .number)) (eqb (reserved (e .width) s) 0 && (goodIn e p && z)) h in
       let c = and-true (eqb (reserved (e .width) s) 0) (goodIn e p && z) (b .1) in
       and-true (goodIn e p) z (c .1) .0

@@ -20,7 +20,7 @@ use Rattle.plate.specs.Plate.{Rule, Edition, firstCode, goodRule}
 use Rattle.plate.specs.Stands.{Here, Stands}
 use Rattle.plate.specs.Read.{foldingsPlace, many, past, ruleAt, ruleEnd, ruleCount, foldingCount, rulesPlace, acceptedIn, editionOf, countWidth, accepted, plateIn}
 use Rattle.plate.specs.Answers.{inOrder, ruleFits, ruleSeen}
-use Rattle.plate.specs.Noted.{half, notedCharacters, isOf, isOther, GroupIs, Placed, NotedFrom, NotedIn, NotedIf, AllPlaced}
+use Rattle.plate.specs.Noted.{half, notedCharacters, isOf, isOther, GroupIs, RulesPlaced, NotedFrom, NotedIn, NotedIf, AllPlaced}
 use Rattle.plate.specs.declared.Seen.{Seen}
 use Rattle.plate.specs.declared.Seen.the-variants.{Good}
 use Rattle.plate.proofs.Listed.{length-many, getD-many, many-snoc, past-snoc}

@@ -22,9 +22,9 @@ use Rattle.plate.specs.Bits.{bitsOf, unpack, pack, numberAt}
 use Rattle.plate.specs.Plate.{Folding, Rule, Plate, Edition, edition1, edition2, editionFor, mostFoldings, goodField, nonzeroByte, goodPattern, goodRule, nonzeroScalar, goodFolding}
 use Rattle.plate.specs.Plate.{rising, ordered, goodFoldings, goodRules, goodIn, goodPlate}
 use Rattle.plate.specs.Most.{mostRules}
-use Rattle.plate.specs.Written.{counted, digitBits, alternativeBits, fieldBits, ruleBits, foldingBits, flagBit, headIn, headOf, headBits, plateBits, bytesIn, plateBytes}
+use Rattle.plate.specs.Written.{withCount, digitBits, alternativeBits, fieldBits, ruleBits, foldingBits, flagBit, headIn, headOf, headBits, plateBits, bytesIn, plateBytes}
 use Rattle.plate.specs.Read.{many, past, alternativeAt, alternativeEnd, fieldAt, fieldEnd, patternAt, startPlace, vowelPlace, otherPlace, ruleAt, ruleEnd, foldingAt}
-use Rattle.plate.specs.Read.{foldingEnd, ruleCount, foldingCount, flagNumber, reserved, foldingsPlace, rulesPlace, plateAt, plateEnd, closed, acceptedIn, readIn}
+use Rattle.plate.specs.Read.{foldingEnd, ruleCount, foldingCount, flagNumber, reserved, foldingsPlace, rulesPlace, plateAt, plateEnd, zeroFilled, acceptedIn, readIn}
 use Rattle.plate.specs.Read.{readBefore, editionOf, accepted, readPlate}
 use Rattle.plate.proofs.Packed.{Binary, Bytes, zero-bits, binary-append, binary-bitsOf, binary-cat, unpack-pack, pack-unpack, pack-fill}
 use Rattle.plate.proofs.Place.{number-lt, length-unpack, wrote, reads, At}
@@ -89,17 +89,17 @@ module _ (s : List ℕ) where
         ∙ ap (λ (l : List ℕ). g (f at) ++ l) (many-wrote grows W n (e at) h)
         ∙ sym (append-assoc (g (f at)) (cat g (many f e n (e at))) (drop (past e n (e at)) B))
 
-    counted-reads : (good : A → Bool) → Reads good f e g → (w : ℕ) (xs : List A) (at : ℕ) (rest : List ℕ) → length xs < 2 ^ w → every good xs ≡ true
-        → At s at (counted w g xs ++ rest)
+    with-count-reads : (good : A → Bool) → Reads good f e g → (w : ℕ) (xs : List A) (at : ℕ) (rest : List ℕ) → length xs < 2 ^ w → every good xs ≡ true
+        → At s at (withCount w g xs ++ rest)
         → (many f e (numberAt s at w) (at + w) ≡ xs) × At s (past e (numberAt s at w) (at + w)) rest
-    counted-reads good R w xs at rest k h x =
+    with-count-reads good R w xs at rest k h x =
         let r = reads s w (length xs) at (cat g xs ++ rest) k (split at (bitsOf w (length xs)) (cat g xs) rest x) in
         let q = many-reads good R xs (at + w) rest h (r .1) in
         (ap (λ (n : ℕ). many f e n (at + w)) (r .0) ∙ q .0, subst (λ (n : ℕ). At s (past e n (at + w)) rest) (sym (r .0)) (q .1))
 
-    counted-wrote : ((p : ℕ) → p ≤ e p) → Wrote f e g → (w at : ℕ) → past e (numberAt s at w) (at + w) ≤ L
-        → drop at B ≡ counted w g (many f e (numberAt s at w) (at + w)) ++ drop (past e (numberAt s at w) (at + w)) B
-    counted-wrote grows W w at h =
+    with-count-wrote : ((p : ℕ) → p ≤ e p) → Wrote f e g → (w at : ℕ) → past e (numberAt s at w) (at + w) ≤ L
+        → drop at B ≡ withCount w g (many f e (numberAt s at w) (at + w)) ++ drop (past e (numberAt s at w) (at + w)) B
+    with-count-wrote grows W w at h =
         let n = numberAt s at w in
         let xs = many f e n (at + w) in
         wrote s w at (omega (arith, h, past-grows e grows n (at + w)))
@@ -129,13 +129,13 @@ module _ (s : List ℕ) where
   alternative-reads a at rest h x =
       let b = and-true (leb (length a) 6) (every digit a) h in
       let k : length a < 8 = omega (arith, leb-true (length a) 6 (b .0)) in
-      let r = counted-reads (λ p. 48 + numberAt s p 4) (λ p. p + 4) digitBits digit digit-reads 3 a at rest k (b .1) x in
+      let r = with-count-reads (λ p. 48 + numberAt s p 4) (λ p. p + 4) digitBits digit digit-reads 3 a at rest k (b .1) x in
       (r .0, moved _ _ rest (past-add 4 (numberAt s at 3) (at + 3)) (r .1))
 
   alternative-wrote : Wrote (alternativeAt s) (alternativeEnd s) alternativeBits
   alternative-wrote at h =
       let e = past-add 4 (numberAt s at 3) (at + 3) in
-      counted-wrote (λ p. 48 + numberAt s p 4) (λ p. p + 4) digitBits (width-grows 4) digit-wrote 3 at (subst (λ (p : ℕ). p ≤ L) (sym e) h)
+      with-count-wrote (λ p. 48 + numberAt s p 4) (λ p. p + 4) digitBits (width-grows 4) digit-wrote 3 at (subst (λ (p : ℕ). p ≤ L) (sym e) h)
       ∙ ap (λ (p : ℕ). alternativeBits (alternativeAt s at) ++ drop p B) e
 
   alternative-grows : (p : ℕ) → p ≤ alternativeEnd s p
@@ -148,10 +148,10 @@ module _ (s : List ℕ) where
       let b = and-true (between 1 8 (length f)) (every isAlternative f) h in
       let c = between-true 1 8 (length f) (b .0) in
       let k : length f < 16 = omega arith in
-      counted-reads (alternativeAt s) (alternativeEnd s) alternativeBits isAlternative alternative-reads 4 f at rest k (b .1) x
+      with-count-reads (alternativeAt s) (alternativeEnd s) alternativeBits isAlternative alternative-reads 4 f at rest k (b .1) x
 
   field-wrote : Wrote (fieldAt s) (fieldEnd s) fieldBits
-  field-wrote at h = counted-wrote (alternativeAt s) (alternativeEnd s) alternativeBits alternative-grows alternative-wrote 4 at h
+  field-wrote at h = with-count-wrote (alternativeAt s) (alternativeEnd s) alternativeBits alternative-grows alternative-wrote 4 at h
 
   field-grows : (p : ℕ) → p ≤ fieldEnd s p
   field-grows p = omega (arith, past-grows (alternativeEnd s) alternative-grows (numberAt s p 4) (p + 4))
@@ -176,8 +176,8 @@ module _ (s : List ℕ) where
       let g = and-true (between 1 16 (length p0)) (every nonzeroByte p0 && isText p0) (b .0) in
       let c = between-true 1 16 (length p0) (g .0) in
       let k : length p0 < 32 = omega arith in
-      let q0 = counted-reads (λ p. numberAt s p 8) (λ p. p + 8) (bitsOf 8) nonzeroByte byte-reads 5 p0 at ((l1 ++ (l2 ++ l3)) ++ rest) k
-      (and-true (every nonzeroByte p0) (isText p0) (g .1) .0) (split at (counted 5 (bitsOf 8) p0) (l1 ++ (l2 ++ l3)) rest x) in
+      let q0 = with-count-reads (λ p. numberAt s p 8) (λ p. p + 8) (bitsOf 8) nonzeroByte byte-reads 5 p0 at ((l1 ++ (l2 ++ l3)) ++ rest) k
+      (and-true (every nonzeroByte p0) (isText p0) (g .1) .0) (split at (withCount 5 (bitsOf 8) p0) (l1 ++ (l2 ++ l3)) rest x) in
       let x1 = moved _ (startPlace s at) ((l1 ++ (l2 ++ l3)) ++ rest) (past-add 8 (numberAt s at 5) (at + 5)) (q0 .1) in
       let q1 = field-reads (r .start) (startPlace s at) ((l2 ++ l3) ++ rest) (b1 .0) (split (startPlace s at) l1 (l2 ++ l3) rest x1) in
       let q2 = field-reads (r .vowel) (vowelPlace s at) (l3 ++ rest) (b2 .0) (split (vowelPlace s at) l2 l3 rest (q1 .1)) in
@@ -193,7 +193,7 @@ module _ (s : List ℕ) where
   rule-wrote : Wrote (ruleAt s) (ruleEnd s) ruleBits
   rule-wrote at h =
       let e = past-add 8 (numberAt s at 5) (at + 5) in
-      let l0 = counted 5 (bitsOf 8) (patternAt s at) in
+      let l0 = withCount 5 (bitsOf 8) (patternAt s at) in
       let l1 = fieldBits (fieldAt s (startPlace s at)) in
       let l2 = fieldBits (fieldAt s (vowelPlace s at)) in
       let l3 = fieldBits (fieldAt s (otherPlace s at)) in
@@ -201,7 +201,7 @@ module _ (s : List ℕ) where
       let g2 = field-grows (vowelPlace s at) in
       let g3 = field-grows (otherPlace s at) in
       let k : startPlace s at ≤ L = omega (arith, g1, g2, g3, h) in
-      counted-wrote (λ p. numberAt s p 8) (λ p. p + 8) (bitsOf 8) (width-grows 8) (wrote s 8) 5 at (subst (λ (p : ℕ). p ≤ L) (sym e) k)
+      with-count-wrote (λ p. numberAt s p 8) (λ p. p + 8) (bitsOf 8) (width-grows 8) (wrote s 8) 5 at (subst (λ (p : ℕ). p ≤ L) (sym e) k)
       ∙ ap (λ (p : ℕ). l0 ++ drop p B) e
       ∙ ap (λ (l : List ℕ). l0 ++ l)
       (field-wrote (startPlace s at) (omega (arith, g2, g3, h)) ∙ ap (λ (l : List ℕ). l1 ++ l)
@@ -275,15 +275,15 @@ module _ (s : List ℕ) where
 
   -- ---- the fill
 
-  closed-reads : (end k : ℕ) → k < 8 → At s end (replicate k 0) → closed s end ≡ true
-  closed-reads end k h x =
+  filled-reads : (end k : ℕ) → k < 8 → At s end (replicate k 0) → zeroFilled s end ≡ true
+  filled-reads end k h x =
       let len : L - end ≡ k = sym (length-drop end B ∙ ap (λ (n : ℕ). n - end) (length-unpack s)) ∙ ap length (x .1) ∙ length-replicate k 0 in
       let fill : 7 - (end + 7) % 8 ≡ k = omega (arith, x .0, len) in
       let r = reads s k 0 end [] (pow-pos k) (x .0, x .1 ∙ zero-bits k ∙ sym (append-nil (bitsOf k 0))) in
       both-true (eq-eqb ((end + 7) / 8) (length s) (omega (arith, x .0, len))) (eq-eqb _ _ (ap (numberAt s end) fill ∙ r .0))
 
-  closed-wrote : (end : ℕ) → closed s end ≡ true → (end ≤ L) × (drop end B ≡ replicate (L - end) 0) × (L - end < 8)
-  closed-wrote end h =
+  filled-wrote : (end : ℕ) → zeroFilled s end ≡ true → (end ≤ L) × (drop end B ≡ replicate (L - end) 0) × (L - end < 8)
+  filled-wrote end h =
       let fill = 7 - (end + 7) % 8 in
       let b = and-true (eqb ((end + 7) / 8) (length s)) (eqb (numberAt s end fill) 0) h in
       let e = eqb-true ((end + 7) / 8) (length s) (b .0) in
@@ -299,16 +299,16 @@ module _ (s : List ℕ) where
 
 -- ---- what is written is bits
 
-binary-counted : {A : Type 0} (w : ℕ) (g : A → List ℕ) → ((a : A) → Binary (g a)) → (xs : List A) → Binary (counted w g xs)
-binary-counted w g h xs = binary-append (bitsOf w (length xs)) (cat g xs) (binary-bitsOf w (length xs)) (binary-cat g h xs)
+binary-with-count : {A : Type 0} (w : ℕ) (g : A → List ℕ) → ((a : A) → Binary (g a)) → (xs : List A) → Binary (withCount w g xs)
+binary-with-count w g h xs = binary-append (bitsOf w (length xs)) (cat g xs) (binary-bitsOf w (length xs)) (binary-cat g h xs)
 
 binary-field : (f : List (List ℕ)) → Binary (fieldBits f)
-binary-field = binary-counted 4 alternativeBits (binary-counted 3 digitBits (λ d. binary-bitsOf 4 (d - 48)))
+binary-field = binary-with-count 4 alternativeBits (binary-with-count 3 digitBits (λ d. binary-bitsOf 4 (d - 48)))
 
 binary-rule : (r : Rule) → Binary (ruleBits r)
 binary-rule r =
-    binary-append (counted 5 (bitsOf 8) (r .pattern)) (fieldBits (r .start) ++ (fieldBits (r .vowel) ++ fieldBits (r .other)))
-    (binary-counted 5 (bitsOf 8) (binary-bitsOf 8) (r .pattern))
+    binary-append (withCount 5 (bitsOf 8) (r .pattern)) (fieldBits (r .start) ++ (fieldBits (r .vowel) ++ fieldBits (r .other)))
+    (binary-with-count 5 (bitsOf 8) (binary-bitsOf 8) (r .pattern))
     (binary-append (fieldBits (r .start)) (fieldBits (r .vowel) ++ fieldBits (r .other)) (binary-field (r .start))
     (binary-append (fieldBits (r .vowel)) (fieldBits (r .other)) (binary-field (r .vowel)) (binary-field (r .other))))
 
@@ -395,7 +395,7 @@ module _ (e : Edition) (number : e .number < 256) (width : e .width ≤ 15) (mos
           rules = (ap (λ (n : ℕ). many (ruleAt s) (ruleEnd s) n (rulesPlace w s)) (hr .rules) ∙ rr .0) i;
         } in
         let x2 : At s (plateEnd w s) zeros = subst (λ (n : ℕ). At s (past (ruleEnd s) n (rulesPlace w s)) zeros) (sym (hr .rules)) (rr .1) in (
-          both-true (eq-eqb _ _ (hr .edition)) (both-true (eq-eqb _ _ (hr .empty)) (both-true (ap (goodIn e) same ∙ h) (closed-reads s (plateEnd w s) k small x2))),
+          both-true (eq-eqb _ _ (hr .edition)) (both-true (eq-eqb _ _ (hr .empty)) (both-true (ap (goodIn e) same ∙ h) (filled-reads s (plateEnd w s) k small x2))),
           same,
         )
 
@@ -404,10 +404,10 @@ module _ (e : Edition) (number : e .number < 256) (width : e .width ≤ 15) (mos
       → (unpack s ≡ plateBits e (plateAt w s) ++ replicate (8 * length s - plateEnd w s) 0) × (8 * length s - plateEnd w s < 8)
   written-bits s h =
       let p = plateAt w s in
-      let b = and-true (eqb (numberAt s 0 8) (e .number)) (eqb (reserved w s) 0 && (goodIn e p && closed s (plateEnd w s))) h in
-      let b1 = and-true (eqb (reserved w s) 0) (goodIn e p && closed s (plateEnd w s)) (b .1) in
-      let b2 = and-true (goodIn e p) (closed s (plateEnd w s)) (b1 .1) in
-      let c = closed-wrote s (plateEnd w s) (b2 .1) in
+      let b = and-true (eqb (numberAt s 0 8) (e .number)) (eqb (reserved w s) 0 && (goodIn e p && zeroFilled s (plateEnd w s))) h in
+      let b1 = and-true (eqb (reserved w s) 0) (goodIn e p && zeroFilled s (plateEnd w s)) (b .1) in
+      let b2 = and-true (goodIn e p) (zeroFilled s (plateEnd w s)) (b1 .1) in
+      let c = filled-wrote s (plateEnd w s) (b2 .1) in
       let g = past-grows (ruleEnd s) (rule-grows s) (ruleCount w s) (rulesPlace w s) in
       let q = past-add 42 (foldingCount w s) 32 in
       let zeros : List ℕ = replicate (8 * length s - plateEnd w s) 0 in
@@ -508,7 +508,7 @@ is-for n = by-test IsEdition (leb n 512) edition1 edition2 (λ _. is-1) (λ _. i
 tells : (e : Edition) → IsEdition e → (s : List ℕ) → acceptedIn e s ≡ true → editionOf s ≡ e
 tells e is s h =
     is .of s (eqb-true (numberAt s 0 8) (e .number) (and-true (eqb (numberAt s 0 8) (e .number))
-    (eqb (reserved (e .width) s) 0 && (goodIn e (plateAt (e .width) s) && closed s (plateEnd (e .width) s))) h .0))
+    (eqb (reserved (e .width) s) 0 && (goodIn e (plateAt (e .width) s) && zeroFilled s (plateEnd (e .width) s))) h .0))
 
 -- No bytes are plates of two editions, and bytes are a plate exactly if they are one of some edition.
 pub one-edition : (s : List ℕ) → acceptedIn edition1 s ≡ true → acceptedIn edition2 s ≡ true → ⊥

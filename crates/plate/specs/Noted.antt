@@ -46,7 +46,7 @@ pub record Parted (rs : List Rule) (c k : ℕ) : Type 0 where
 -- ---- what is noted of n rules from a place on
 
 -- entry i is the place of rule i
-pub record Placed (s : List ℕ) (from n : ℕ) (places : List ℕ) : Type 0 where
+pub record RulesPlaced (s : List ℕ) (from n : ℕ) (places : List ℕ) : Type 0 where
   pub room : n ≤ length places
   pub at : (i : ℕ) → i < n → getD places i 0 ≡ past (ruleEnd s) i from
 
@@ -63,7 +63,7 @@ pub record Grouped (s : List ℕ) (from n : ℕ) (groups : List ℕ) : Type 0 wh
   pub of : (c : ℕ) → c < notedCharacters → GroupIs (many (ruleAt s) (ruleEnd s) n from) c (getD groups c 0 / half) (getD groups c 0 % half)
 
 abbrev pub NotedFrom : List ℕ → ℕ → ℕ → List ℕ → List ℕ → Type 0
-NotedFrom s from n places groups = Placed s from n places × Grouped s from n groups
+NotedFrom s from n places groups = RulesPlaced s from n places × Grouped s from n groups
 
 -- of all rules of a plate, whose rule count is w bits wide
 abbrev pub NotedIn : ℕ → List ℕ → List ℕ → List ℕ → Type 0
@@ -71,7 +71,7 @@ NotedIn w s places groups = NotedFrom s (rulesPlace w s) (ruleCount w s) places 
 
 -- of all rules of a plate
 abbrev pub AllPlaced : List ℕ → List ℕ → Type 0
-AllPlaced s places = Placed s (rulesPlace (countWidth s) s) (ruleCount (countWidth s) s) places
+AllPlaced s places = RulesPlaced s (rulesPlace (countWidth s) s) (ruleCount (countWidth s) s) places
 
 abbrev pub Noted : List ℕ → List ℕ → List ℕ → Type 0
 Noted s places groups = NotedIn (countWidth s) s places groups

@@ -1,5 +1,5 @@
 -- Which bytes are a plate, and what it says. 01, "The plate is read by a bit reader over the lent bytes. A plate is accepted exactly if [..]".
--- Reading never fails: past the end every bit is 0. What was read is judged afterwards, and `closed` refuses what ran past the end, stopped short or
+-- Reading never fails: past the end every bit is 0. What was read is judged afterwards, and `zeroFilled` refuses what ran past the end, stopped short or
 -- left fill. That these are exactly the bytes of good plates is proved: proofs/Round.antt, plate-reads and plate-exact. Assumes nothing.
 use Prim.Native.Nat.{ℕ, zero, suc, _+_, _-_, _*_, _/_, _%_}
 use mathlib.Core.Bool.{Bool, cond, _&&_}
@@ -105,12 +105,12 @@ abbrev pub plateEnd : ℕ → List ℕ → ℕ
 plateEnd w s = past (ruleEnd s) (ruleCount w s) (rulesPlace w s)
 
 -- "fill [..] bits are zero, and no byte follows": the bits end in the last byte, and what is left of it is zero
-abbrev pub closed : List ℕ → ℕ → Bool
-closed s end = eqb ((end + 7) / 8) (length s) && eqb (numberAt s end (7 - (end + 7) % 8)) 0
+abbrev pub zeroFilled : List ℕ → ℕ → Bool
+zeroFilled s end = eqb ((end + 7) / 8) (length s) && eqb (numberAt s end (7 - (end + 7) % 8)) 0
 
 abbrev pub acceptedIn : Edition → List ℕ → Bool
 acceptedIn e s =
-    eqb (numberAt s 0 8) (e .number) && (eqb (reserved (e .width) s) 0 && (goodIn e (plateAt (e .width) s) && closed s (plateEnd (e .width) s)))
+    eqb (numberAt s 0 8) (e .number) && (eqb (reserved (e .width) s) 0 && (goodIn e (plateAt (e .width) s) && zeroFilled s (plateEnd (e .width) s)))
 
 abbrev pub readIn : Edition → List ℕ → Option Plate
 readIn e s = cond (acceptedIn e s) (some (plateAt (e .width) s)) none

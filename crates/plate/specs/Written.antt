@@ -8,8 +8,8 @@ use Rattle.plate.specs.Bits.{bitsOf, pack}
 use Rattle.plate.specs.Plate.{Folding, Rule, Plate, Edition, editionFor}
 
 -- a list: how many in w bits, then one behind the other
-abbrev pub counted : {A : Type 0} → ℕ → (A → List ℕ) → List A → List ℕ
-counted w f xs = bitsOf w (length xs) ++ cat f xs
+abbrev pub withCount : {A : Type 0} → ℕ → (A → List ℕ) → List A → List ℕ
+withCount w f xs = bitsOf w (length xs) ++ cat f xs
 
 -- "4 bits a digit"
 abbrev pub digitBits : ℕ → List ℕ
@@ -17,15 +17,15 @@ digitBits d = bitsOf 4 (d - 48)
 
 -- "per alternative 3 bits digit count and 4 bits a digit"
 abbrev pub alternativeBits : List ℕ → List ℕ
-alternativeBits = counted 3 digitBits
+alternativeBits = withCount 3 digitBits
 
 -- "three fields (start, before vowel, default), each 4 bits count, then [the alternatives]"
 abbrev pub fieldBits : List (List ℕ) → List ℕ
-fieldBits = counted 4 alternativeBits
+fieldBits = withCount 4 alternativeBits
 
 -- "Rules: 5 bits pattern length in bytes, the bytes; then three fields"
 abbrev pub ruleBits : Rule → List ℕ
-ruleBits r = counted 5 (bitsOf 8) (r .pattern) ++ (fieldBits (r .start) ++ (fieldBits (r .vowel) ++ fieldBits (r .other)))
+ruleBits r = withCount 5 (bitsOf 8) (r .pattern) ++ (fieldBits (r .start) ++ (fieldBits (r .vowel) ++ fieldBits (r .other)))
 
 -- "Foldings, stored whatever the flag: 21 bits key, 21 bits target"
 abbrev pub foldingBits : Folding → List ℕ

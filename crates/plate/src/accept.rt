@@ -8,7 +8,7 @@ ghost use lib.ListN.{length, replicate};
 ghost use Rattle.plate.specs.Bits.{numberAt};
 ghost use Rattle.plate.specs.Plate.{nonzeroScalar, goodFolding, mostFoldings, mostDigits};
 ghost use Rattle.plate.specs.Most.{mostRules, fewRules, alternativeMost, fieldMost, ruleMost, foldingsMost, plateMost, farthest};
-ghost use Rattle.plate.specs.Read.{foldingAt, foldingsPlace, closed, acceptedIn, countWidth, mostOf, accepted};
+ghost use Rattle.plate.specs.Read.{foldingAt, foldingsPlace, zeroFilled, acceptedIn, countWidth, mostOf, accepted};
 ghost use Rattle.plate.specs.Window.{Holds};
 ghost use Rattle.plate.specs.Answers.{bytesAt, lastDigits, upTo, alternativeStep, fieldStep, fieldsStep, firstOf, ruleMade, seenTo, rulesStep, foldingsGood, keyBehind, edition};
 ghost use Rattle.plate.specs.Noted.{notedCharacters, Unnoted, NotedTo, NotedIf};
@@ -331,9 +331,9 @@ fn accept_foldings(plate: &[u8], n: usize) -> bool
 }
 
 // The bits end in the last byte, and zeros fill it.
-fn is_closed(plate: &[u8], end: usize) -> bool
+fn is_zero_filled(plate: &[u8], end: usize) -> bool
     requires { ⌜ end ≤ plateMost ⌝ }
-    ensures { λ r. ⌜ r ≡ closed (now (plate .entry)) end ⌝ }
+    ensures { λ r. ⌜ r ≡ zeroFilled (now (plate .entry)) end ⌝ }
 {
     if (end + 7) / 8 == plate.len() {
         return bits(plate, end, 7 - (end + 7) % 8) == 0;
@@ -376,7 +376,7 @@ fn accept_in(
         else {
             return false;
         };
-        return is_closed(plate, end);
+        return is_zero_filled(plate, end);
     }
     false
 }

@@ -16,7 +16,7 @@ use Rattle.chars.specs.Utf8.{isText, textFrom}
 use Rattle.chars.specs.Digits.{digit, isAlternative}
 use Rattle.plate.specs.Bits.{bitsOf}
 use Rattle.plate.specs.Plate.{Folding, Rule, Plate, mostFoldings, nonzeroByte, goodPattern, goodField, goodRule, goodFolding, goodPlate, rising, mayPrecede, ordered}
-use Rattle.plate.specs.Written.{counted, digitBits, alternativeBits, fieldBits, ruleBits, foldingBits, headOf, plateBytes}
+use Rattle.plate.specs.Written.{withCount, digitBits, alternativeBits, fieldBits, ruleBits, foldingBits, headOf, plateBytes}
 use Rattle.plate.proofs.Packed.{length-bitsOf}
 use Rattle.plate.proofs.Round.{head-length, good-is, is-good}
 use Rattle.book.proofs.Inks.{pack-length}
@@ -34,10 +34,10 @@ cat-most f t m h (x ∷ l) e =
     let sum = length-append (f x) (cat f l) in
     let more = mul-suc m (length l) in omega arith
 
--- A counted list: the count's bits, and at most m for each of at most n.
-counted-most : {A : Type 0} (w : ℕ) (f : A → List ℕ) (t : A → Bool) (m n : ℕ) → ((x : A) → t x ≡ true → length (f x) ≤ m) → (l : List A) → every t l ≡ true → length l ≤ n
-    → length (counted w f l) ≤ w + m * n
-counted-most w f t m n h l e few =
+-- A list behind its count: the count's bits, and at most m for each of at most n.
+with-count-most : {A : Type 0} (w : ℕ) (f : A → List ℕ) (t : A → Bool) (m n : ℕ) → ((x : A) → t x ≡ true → length (f x) ≤ m) → (l : List A) → every t l ≡ true → length l ≤ n
+    → length (withCount w f l) ≤ w + m * n
+with-count-most w f t m n h l e few =
     let sum = length-append (bitsOf w (length l)) (cat f l) in
     let head = length-bitsOf w (length l) in
     let rest = cat-most f t m h l e in
@@ -50,19 +50,19 @@ every-any (x ∷ l) = every-any l
 alternative-most : (a : List ℕ) → isAlternative a ≡ true → length (alternativeBits a) ≤ 27
 alternative-most a h =
     let b = and-true (leb (length a) 6) (every digit a) h in
-    counted-most 3 digitBits (λ d. true) 4 6 (λ d e. let n = length-bitsOf 4 (d - 48) in omega arith) a (every-any a) (leb-true (length a) 6 (b .0))
+    with-count-most 3 digitBits (λ d. true) 4 6 (λ d e. let n = length-bitsOf 4 (d - 48) in omega arith) a (every-any a) (leb-true (length a) 6 (b .0))
 
 field-most : (f : List (List ℕ)) → goodField f ≡ true → length (fieldBits f) ≤ 220
 field-most f h =
     let b = and-true (between 1 8 (length f)) (every isAlternative f) h in
     let few = between-true 1 8 (length f) (b .0) in
-    counted-most 4 alternativeBits isAlternative 27 8 alternative-most f (b .1) (few .1)
+    with-count-most 4 alternativeBits isAlternative 27 8 alternative-most f (b .1) (few .1)
 
-pattern-most : (p : List ℕ) → goodPattern p ≡ true → length (counted 5 (bitsOf 8) p) ≤ 133
+pattern-most : (p : List ℕ) → goodPattern p ≡ true → length (withCount 5 (bitsOf 8) p) ≤ 133
 pattern-most p h =
     let b = and-true (between 1 16 (length p)) (every nonzeroByte p && isText p) h in
     let few = between-true 1 16 (length p) (b .0) in
-    counted-most 5 (bitsOf 8) (λ c. true) 8 16 (λ c e. let n = length-bitsOf 8 c in omega arith) p (every-any p) (few .1)
+    with-count-most 5 (bitsOf 8) (λ c. true) 8 16 (λ c e. let n = length-bitsOf 8 c in omega arith) p (every-any p) (few .1)
 
 rule-most : (r : Rule) → goodRule r ≡ true → length (ruleBits r) ≤ 793
 rule-most r h =
@@ -73,7 +73,7 @@ rule-most r h =
     let s = field-most (r .start) (b .0) in
     let v = field-most (r .vowel) (c .0) in
     let o = field-most (r .other) (c .1) in
-    let one = length-append (counted 5 (bitsOf 8) (r .pattern)) (fieldBits (r .start) ++ (fieldBits (r .vowel) ++ fieldBits (r .other))) in
+    let one = length-append (withCount 5 (bitsOf 8) (r .pattern)) (fieldBits (r .start) ++ (fieldBits (r .vowel) ++ fieldBits (r .other))) in
     let two = length-append (fieldBits (r .start)) (fieldBits (r .vowel) ++ fieldBits (r .other)) in
     let three = length-append (fieldBits (r .vowel)) (fieldBits (r .other)) in omega arith
 

@@ -112,8 +112,8 @@ returns-6 c =
       tt,
     )
 
-is-closed-requires : tie.Need-is-closed-requires
-is-closed-requires c κs =
+is-zero-filled-requires : tie.Need-is-zero-filled-requires
+is-zero-filled-requires c κs =
     let known = c .before in
     let noted = known .before .before in
     let ruled = noted .before .before .before .before in
@@ -150,8 +150,8 @@ returns-7 c =
           (ruled .accept-rules .result) (told .0) (number .bits .result) (reserved .bits2 .result) (number .bits .ensures .0) (reserved .before .if1 .left)
           (reserved .bits2 .ensures .0) (rules .before .if2 .left) (foldings .before .before .if3 .left) (foldings .before .if4 .left) (folded .before .if5 .left)
           (ruled .before .before .before .if6 .taken)
-          (v .0 .0) (v .1) (c .is-closed .result) (c .is-closed .ensures),
-      noted-if (c .is-closed .result) (a .width) s _ _ (noted-all (a .width) s _ _ (m .result) (n .result) (m .ensures .0) (n .ensures .0) (rw (v .1) at (told .2))),
+          (v .0 .0) (v .1) (c .is-zero-filled .result) (c .is-zero-filled .ensures),
+      noted-if (c .is-zero-filled .result) (a .width) s _ _ (noted-all (a .width) s _ _ (m .result) (n .result) (m .ensures .0) (n .ensures .0) (rw (v .1) at (told .2))),
     )
 
 returns-8 : tie.Need-returns-8
@@ -190,7 +190,7 @@ accept-in-spec =
     same-length
     same-length-2
     returns-6
-    is-closed-requires
+    is-zero-filled-requires
     same-length-3
     same-length-4
     returns-7
