@@ -16,7 +16,7 @@ use Rattle.laws.proofs.Arrays.{each-at, each-behind, same-further, blank-furthe
 use Rattle.plate.specs.Plate.{mostDigits}
 use Rattle.plate.specs.Field.{DigitsOk}
 use Rattle.branches.specs.Branches.{Branch, start}
-use Rattle.branches.specs.Held.{BranchOk, branchOf, blankBranch, mostBranches, ItemsOk, FirstOk, BlankBehind}
+use Rattle.branches.specs.Held.{BranchOk, branchOf, blankBranch, emptyBranch, mostBranches, ItemsOk, FirstOk, BlankBehind}
 use Rattle.branches.specs.declared.Branch as one
 
 -- what stands past the end of an array, as the proofs of the code have it
@@ -118,12 +118,12 @@ module _ (items out : List one.Branch) (from i : ℕ) (first : from ≤ i) where
             ∙ replicate-append-replicate (i - from) (mostBranches - i) blankBranch ∙ ap (λ (k : ℕ). replicate k blankBranch) size;
       }
 
--- ---- 64 blank branches, of which none counts, or one
+-- ---- 64 blank branches, of which none counts, or the empty one in front of them
 
 pub blanks-ok : (b : one.Branch) → b ≡ blankBranch → ItemsOk (replicate mostBranches b) 0
 blanks-ok b e = record { small = zero-le; long = refl; each = tt; clear = ap (replicate mostBranches) e }
 
-pub start-ok : (b : one.Branch) → b ≡ blankBranch → ItemsOk (replicate mostBranches b) 1 × (branchOf b ∷ [] ≡ start)
-start-ok b e =
-    let empty : DigitsOk (replicate mostDigits 48) 0 = record { small = zero-le; six = refl; clear = refl } in
-    (record { small = lit≤ tt; long = refl; each = rw e ((empty, empty), tt); clear = ap (replicate 63) e }, rw e)
+pub start-ok : (b s : one.Branch) → b ≡ blankBranch → s ≡ emptyBranch → ItemsOk (set (replicate mostBranches b) 0 s) 1 × (branchOf s ∷ [] ≡ start)
+start-ok b s e f =
+    let none : DigitsOk (replicate mostDigits 48) 0 = record { small = zero-le; six = refl; clear = refl } in
+    (record { small = lit≤ tt; long = refl; each = rw f ((none, none), tt); clear = ap (replicate 63) e }, rw f)

@@ -1,4 +1,4 @@
--- What the structs of this crate hold, and what `step` answers. Bytes past a count are b'0' and branches past one are blank, so that branches are held in one
+-- What the structs of this crate hold, and what `step` answers. Bytes past a count are b'0' and branches past one are zeros, so that branches are held in one
 -- way only, and the digits of a branch are its padded code. Assumes nothing.
 use Prim.Native.Nat.{ℕ, _-_, _≤_}
 use mathlib.Core.Path.{_≡_}
@@ -23,8 +23,13 @@ BranchOk b = DigitsOk (b .digits) (b .count) × DigitsOk (b .last) (b .«last_co
 abbrev pub branchOf : one.Branch → Branch
 branchOf b = record { digits = take (b .count) (b .digits); last = take (b .«last_count») (b .last) }
 
+-- what stands past a count: zeros
 abbrev pub blankBranch : one.Branch
-blankBranch = record { digits = replicate codeDigits 48; count = 0; last = replicate mostDigits 48; «last_count» = 0 }
+blankBranch = record { digits = replicate codeDigits 0; count = 0; last = replicate mostDigits 0; «last_count» = 0 }
+
+-- no digits, no last replacement
+abbrev pub emptyBranch : one.Branch
+emptyBranch = record { digits = replicate codeDigits 48; count = 0; last = replicate mostDigits 48; «last_count» = 0 }
 
 -- ---- branches
 

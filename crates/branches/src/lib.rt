@@ -8,7 +8,7 @@ ghost use Rattle.laws.specs.Lists.{same};
 ghost use Rattle.laws.specs.Once.{once};
 ghost use Rattle.plate.specs.Field.{DigitsOk, AlternativeOk, alternativeOf, FieldOk};
 ghost use Rattle.branches.specs.Branches as defined;
-ghost use Rattle.branches.specs.Held.{BranchOk, branchOf, blankBranch, mostBranches, ItemsOk, FirstOk, BlankBehind, BranchesOk, branchesOf, useOf, Answered};
+ghost use Rattle.branches.specs.Held.{BranchOk, branchOf, blankBranch, emptyBranch, mostBranches, ItemsOk, FirstOk, BlankBehind, BranchesOk, branchesOf, useOf, Answered};
 use plate::Alternative;
 use plate::Field;
 use plate::MOST_DIGITS;
@@ -142,9 +142,21 @@ pub fn extend(b: Branch, a: Alternative, anyway: bool) -> Branch
     append(b, a)
 }
 
-// What stands past a count: no digits, no last replacement.
+// What stands past a count: zeros, for 64 of them are laid down fastest.
 fn blank() -> Branch
     ensures { λ r. ⌜ r ≡ blankBranch ⌝ }
+{
+    Branch {
+        digits: [0; MOST_DIGITS],
+        count: 0,
+        last: [0; MOST_DIGITS],
+        last_count: 0,
+    }
+}
+
+// The empty branch: no digits, no last replacement.
+fn empty() -> Branch
+    ensures { λ r. ⌜ r ≡ emptyBranch ⌝ }
 {
     Branch {
         digits: [b'0'; MOST_DIGITS],
@@ -172,10 +184,9 @@ fn too_many() -> Stepped
 pub fn start() -> Branches
     ensures { λ r. ⌜ BranchesOk r × (branchesOf r ≡ defined.start) ⌝ }
 {
-    Branches {
-        items: [blank(); MOST_BRANCHES],
-        count: 1,
-    }
+    let mut items = [blank(); MOST_BRANCHES];
+    items[0] = empty();
+    Branches { items, count: 1 }
 }
 
 // The array with blank branches from one place up to another.
