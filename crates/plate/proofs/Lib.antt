@@ -12,3 +12,4 @@ pub mod Nibbles
 pub mod Parts
 pub mod Only
 pub mod Shapes
+pub mod Rising

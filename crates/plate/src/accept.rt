@@ -38,14 +38,17 @@ use super::note::note_group;
 use super::pattern;
 use super::plain::plain_code;
 use super::plain::plain_fields;
-use super::plain::plain_key;
 use super::plain::short_field;
 use super::plain::single_fields;
+use super::plain::target_in;
 use super::reader;
 use super::window::part;
 use super::window::window;
 use super::window::window_in;
 use chars::utf8;
+
+// What a key counts for in front of a window, whose first 21 bits it is.
+const KEY: u64 = 8796093022208;
 
 // The last n digits of a number, four bits each, are 0 to 9: none has its bit 3 and one of its bits 2 and 1. All are tested at once; those in front are 0.
 fn accept_digits(number: u64, n: usize) -> bool
@@ -296,24 +299,33 @@ fn any_foldings(plate: &[u8], n: usize) -> bool
     true
 }
 
-// The n foldings are plain, by their shape, and good; the windows over them are there.
+// The n foldings are plain, by their shape, and good; the windows over them are there. A window is above the key before, with ones behind it, exactly if its
+// own key is higher. The last key is the highest, and all targets together have each bit that one of them has: so both are tested once, behind the loop.
 fn plain_foldings(plate: &[u8], n: usize) -> bool
     requires { ⌜ (n ≤ mostFoldings) × ((foldingsPlace + 42 * n) / 8 + 8 ≤ length (now plate)) ⌝ }
     ensures { λ r. ⌜ (r ≡ true → true ≡ foldingsGood (now (plate .entry)) foldingsPlace n 0) ⌝ }
 {
     let mut at: usize = FOLDINGS;
     let mut left = n;
-    let mut before: u32 = 0;
+    let mut before: u64 = KEY - 1;
+    let mut all: u64 = 0;
     while 0 < left {
-        let key = plain_key(window_in(plate, at), before);
-        if key == 0 {
+        let w = window_in(plate, at);
+        if w <= before {
             return false;
         }
-        before = key;
+        if target_in(w) == 0 {
+            return false;
+        }
+        before = (w >> 43) * KEY + (KEY - 1);
+        all = all | w;
         at += FOLDING_BITS;
         left -= 1;
     }
-    true
+    if 0xD7FF < before >> 43 {
+        return false;
+    }
+    target_in(all) <= 0x7FFF
 }
 
 // The n foldings: mostly all are plain and far from the end, which is tested once.

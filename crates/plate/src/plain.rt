@@ -1,18 +1,16 @@
-// Plain rules and foldings, which most are: a pattern of 1 to 6 bytes in characters of one or two, and fields of few alternatives of few digits; a key and a target below the
-// surrogates. Such a shape is a range of the window that it stands in front of. Of any other shape the answer is 0, and accept.rt goes the long way.
+// Plain rules and foldings, which most are: a pattern of 1 to 6 bytes in characters of one or two, and fields of few alternatives of few digits; a key below the surrogates and
+// a target below U+8000. Such a shape is a range of the window that it stands in front of. Of any other shape the answer is 0, and accept.rt goes the long way.
 ghost use mathlib.Core.Path.{_≡_};
 ghost use mathlib.Core.Bool.{true};
 ghost use mathlib.Core.List.{List};
-ghost use Prim.Native.Nat.{ℕ, _+_, _-_, _*_, _/_, _≤_};
+ghost use Prim.Native.Nat.{ℕ, _+_, _-_, _*_, _/_, _%_, _^_, _≤_};
 ghost use lib.ListN.{length};
 ghost use Rattle.plate.specs.Most.{farthest};
 ghost use Rattle.plate.specs.Window.{Holds};
-ghost use Rattle.plate.specs.Answers.{bytesAt, goodText, firstOf, alternativeStep, fieldStep, fieldsStep, keyBehind};
+ghost use Rattle.plate.specs.Answers.{bytesAt, goodText, firstOf, alternativeStep, fieldStep, fieldsStep};
 ghost use Rattle.plate.specs.Plain.{Takes, Passes, Ascii, Double};
 ghost use Rattle.plate.specs.declared.Step.the-variants.{To};
 ghost use Rattle.plate.specs.declared.First.the-variants.{Code};
-use super::CHARACTER_BITS;
-use super::window::part;
 use super::window::window_in;
 
 // An ASCII byte, not zero, stands in front of a window.
@@ -337,23 +335,9 @@ pub(crate) fn plain_fields(plate: &[u8], at: usize) -> usize
     short_fields(plate, at)
 }
 
-// The key of the folding in front of a window, behind another key.
-pub(crate) fn plain_key(w: u64, before: u32) -> u32
-    ensures { λ r. ⌜ ((r ≡ 0 → ⊥) → (s : List ℕ) (at : ℕ) → Holds s at 42 w → r ≡ keyBehind s at before) ⌝ }
+// The target of the folding in front of a window.
+pub(crate) fn target_in(w: u64) -> u64
+    ensures { λ r. ⌜ r ≡ w / 2 ^ 22 % 2 ^ 21 ⌝ }
 {
-    let key = part(w, 0, CHARACTER_BITS) as u32;
-    if key <= before {
-        return 0;
-    }
-    if 0xD7FF < key {
-        return 0;
-    }
-    let target = part(w, CHARACTER_BITS, CHARACTER_BITS);
-    if target == 0 {
-        return 0;
-    }
-    if 0xD7FF < target {
-        return 0;
-    }
-    key
+    (w >> 22) % 2097152
 }
