@@ -3,6 +3,7 @@ pub mod Place
 pub mod Listed
 pub mod Facts
 pub mod Round
+pub mod Whole
 pub mod Windows
 pub mod Fronts
 pub mod Accepted

@@ -1,17 +1,21 @@
 -- What an accepted plate says at a place, for the coder: where a rule stands, its pattern's characters, its fields as they are held. No bit is named
 -- above this: a rule's place comes from the place of the one before. Assumes nothing.
-use Prim.Native.Nat.{ℕ, zero, suc, _+_, _-_, _≤_, _<_}
+use Prim.Native.Nat.{ℕ, zero, suc, _+_, _-_, _*_, _/_, _^_, _≤_, _<_}
 use mathlib.Core.Path.{_≡_}
-use mathlib.Core.Bool.{true}
+use mathlib.Core.Bool.{true, false, cond}
 use mathlib.Core.List.{List, [], _∷_, _++_, map}
+use lib.Dec.{ltb, eqb}
 use lib.ListN.{length, drop, replicate}
 use Rattle.chars.specs.Utf8.{charOf, charsOf, codeOf, widthOf, isText}
-use Rattle.plate.specs.Plate.{Rule, mostAlternatives, mostDigits, goodRule}
+use Rattle.plate.specs.Plate.{Rule, Folding, mostAlternatives, mostDigits, goodRule}
 use Rattle.plate.specs.Most.{plateMost}
 use Rattle.plate.specs.Read.{patternAt, startPlace, vowelPlace, otherPlace, ruleAt, ruleEnd}
 use Rattle.plate.specs.declared.Letter.{Letter}
 use Rattle.plate.specs.declared.Alternative.{Alternative}
 use Rattle.plate.specs.declared.Field.{Field}
+use Rattle.plate.specs.declared.Single.{Single}
+use Rattle.plate.specs.declared.Beginning.{Beginning}
+use Rattle.plate.specs.declared.Beginning.the-variants.{Is, Not, Unsaid}
 
 -- ---- where rules stand
 
@@ -47,6 +51,24 @@ pub record LetterIs (s : List ℕ) (at k : ℕ) (r : Letter) : Type 0 where
   pub within : k + r .width ≤ length (patternAt s at)
   pub nonzero : 0 < r .code
 
+-- ---- a pattern, compared whole
+
+-- bytes as one number, behind a number
+unfoldable pub packed : ℕ → List ℕ → ℕ
+packed v [] = v
+packed v (b ∷ more) = packed (v * 256 + b) more
+
+-- How a pattern stands to the characters ahead, of which the first `plain` stand as bytes in front of a word of 64 bits.
+abbrev pub beginning : List ℕ → ℕ → ℕ → Beginning
+beginning p word plain = cond (ltb plain (length p)) Unsaid (cond (eqb (packed 0 p) (word / 2 ^ (64 - 8 * length p))) (Is (length p)) Not)
+
+-- ---- foldings
+
+-- the first key, of keys that rise; past all characters where there is none
+abbrev pub firstKey : List Folding → ℕ
+firstKey [] = 0x110000
+firstKey (f ∷ more) = f .key
+
 -- ---- fields
 
 -- field 0, 1 or 2: start, before vowel, default
@@ -67,3 +89,9 @@ heldAlternative ds = record { digits = ds ++ replicate (mostDigits - length ds) 
 -- a field as it is held: the fill is the empty alternative
 abbrev pub heldField : List (List ℕ) → Field
 heldField f = record { alternatives = map heldAlternative f ++ replicate (mostAlternatives - length f) (heldAlternative []); count = length f }
+
+-- an alternative alone, as it is held
+abbrev pub heldSingle : List (List ℕ) → Single
+heldSingle [] = record { alternative = heldAlternative []; alone = false }
+heldSingle (a ∷ []) = record { alternative = heldAlternative a; alone = true }
+heldSingle (a ∷ b ∷ more) = record { alternative = heldAlternative []; alone = false }

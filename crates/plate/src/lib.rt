@@ -82,6 +82,13 @@ pub struct Letter {
     pub width: usize,
 }
 
+// How a pattern stands to the characters ahead: it begins them, and so many are its own; it does not; or there are not enough of them to tell.
+pub enum Beginning {
+    Is(usize),
+    Not,
+    Unsaid,
+}
+
 // An alternative: its ASCII digits, and zeros (as ASCII) behind them.
 pub struct Alternative {
     pub digits: [u8; MOST_DIGITS],
@@ -92,4 +99,10 @@ pub struct Alternative {
 pub struct Field {
     pub alternatives: [Alternative; MOST_ALTERNATIVES],
     pub count: usize,
+}
+
+// The alternative of a field that has no other, or that it has not one alone.
+pub struct Single {
+    pub alternative: Alternative,
+    pub alone: bool,
 }

@@ -8,8 +8,9 @@ ghost use Rattle.chars.specs.Digits.{isAlternative};
 ghost use Rattle.plate.specs.Plate.{mostBytes};
 ghost use Rattle.plate.specs.Most.{ruleMost, farthest};
 ghost use Rattle.plate.specs.Read.{alternativeAt, fieldEnd, patternAt, ruleAt, foldBy, rulesPlace, countWidth, accepted, plateIn};
-ghost use Rattle.plate.specs.Stands.{Here, Stands, Mark, LetterIs, fieldOf, fieldPlace, heldAlternative, heldField};
+ghost use Rattle.plate.specs.Stands.{Here, Stands, Mark, LetterIs, fieldOf, fieldPlace, heldAlternative, heldField, firstKey, beginning, heldSingle};
 use super::Alternative;
+use super::Beginning;
 use super::CHARACTER_BITS;
 use super::FOLDING_BITS;
 use super::FOLDINGS;
@@ -18,10 +19,12 @@ use super::Front;
 use super::Letter;
 use super::MOST_ALTERNATIVES;
 use super::MOST_DIGITS;
+use super::Single;
 use super::bits::bits;
 use super::bits::size;
 use super::edition::width_of;
 use super::pattern;
+use super::window::window;
 
 // The places in the head, but for the width of the rule count: 8 bits edition, the rule count, 8 bits folding count, the folding flag.
 const RULE_COUNT: usize = 8;
@@ -35,6 +38,17 @@ pub fn flag(plate: &[u8]) -> bool
     ensures { λ r. ⌜ r ≡ plateIn (now (plate .entry)) .flag ⌝ }
 {
     bits(plate, FLAG + width_of(plate), 1) == 1
+}
+
+// The first key; past all characters where there is no folding. No character below it is folded.
+pub fn first_key(plate: &[u8]) -> u32
+    ensures { λ r. ⌜ r ≡ firstKey (plateIn (now (plate .entry)) .foldings) ⌝ }
+{
+    let n = size(plate, FOLDING_COUNT + width_of(plate), 8);
+    if n < 1 {
+        return 0x110000;
+    }
+    bits(plate, FOLDINGS, CHARACTER_BITS)
 }
 
 // What a character is folded to. Keys rise: below the first there is none, and any other is sought by halves.
@@ -116,6 +130,23 @@ pub fn pattern_length(plate: &[u8], at: usize) -> usize
     size(plate, at, 5)
 }
 
+// Whether the pattern begins the characters ahead, of which the first `plain` stand as bytes in front of a word: by one comparison, where it has no more.
+pub fn pattern_begins(plate: &[u8], at: usize, word: u64, plain: usize) -> Beginning
+    requires { ⌜ Here (now plate) at × (plain ≤ 6) ⌝ }
+    ensures { λ r. ⌜ r ≡ beginning (patternAt (now (plate .entry)) at) word plain ⌝ }
+{
+    let w = window(plate, at);
+    let n = (w >> 59) as usize;
+    if plain < n {
+        return Beginning::Unsaid;
+    }
+    let off = 64 - 8 * n;
+    if (w << 5) >> off == word >> off {
+        return Beginning::Is(n);
+    }
+    Beginning::Not
+}
+
 // The character of the pattern that begins at its byte k; ASCII by one read.
 pub fn pattern_char(plate: &[u8], at: usize, k: usize) -> Letter
     requires { ⌜ Here (now plate) at × Mark (now plate) at k × (k < length (patternAt (now plate) at)) ⌝ }
@@ -160,6 +191,30 @@ fn least(a: usize, b: usize) -> usize
     ensures { λ r. ⌜ (r ≤ a) × (r ≤ b) × ((r ≡ a) ⊎ (r ≡ b)) ⌝ }
 {
     if a <= b { a } else { b }
+}
+
+// The alternative of field 0, 1 or 2 of the rule at a place, where of its first `most` there is one alone: most fields have no other, and need no array.
+pub fn single_at(plate: &[u8], at: usize, which: usize, most: usize) -> Single
+    requires { ⌜ Here (now plate) at × (which ≤ 2) ⌝ }
+    ensures { λ r. ⌜ r ≡ heldSingle (take most (fieldOf (ruleAt (now (plate .entry)) at) which)) ⌝ }
+{
+    let from = field_place(plate, at, which);
+    let n = least(size(plate, from, 4), most);
+    if n != 1 {
+        let none = Alternative {
+            digits: [b'0'; MOST_DIGITS],
+            count: 0,
+        };
+        return Single {
+            alternative: none,
+            alone: false,
+        };
+    }
+    let alternative = alternative_at(plate, from + 4);
+    Single {
+        alternative,
+        alone: true,
+    }
 }
 
 // The first `most` alternatives of field 0, 1 or 2 (start, before vowel, default) of the rule at a place.
