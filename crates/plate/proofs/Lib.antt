@@ -14,3 +14,4 @@ pub mod Parts
 pub mod Only
 pub mod Shapes
 pub mod Rising
+pub mod Masks

@@ -191,15 +191,24 @@ fn is_pair(w: u64) -> bool
     (w >> 49) % 16 <= 9
 }
 
+// Three fields of one digit each stand in front of a window, all tested at once: of 32 bits (of the last digit three decide, since 10 is even) the fixed ones
+// are as they are to be, and six added to each digit carries none over it.
+fn three_digits(w: u64) -> bool
+    ensures { λ r. ⌜ (r ≡ true → Takes fieldsStep 41 w 33) ⌝ }
+{
+    let digits = (w >> 32) ^ 0x12024048;
+    (digits | (digits + 0x00C01803)) & 0xFE1FC3F8 == 0
+}
+
 // The bits of three such fields, of which the first has a digit: the shape of nine rules in ten.
 fn quick_fields(w: u64) -> usize
     ensures { λ r. ⌜ (r ≤ 41) × Takes fieldsStep 41 w r ⌝ }
 {
+    if three_digits(w) {
+        return 33;
+    }
     if is_digit(w) {
         if is_digit(w << 11) {
-            if is_digit(w << 22) {
-                return 33;
-            }
             if is_empty(w << 22) {
                 return 29;
             }
@@ -323,12 +332,7 @@ pub(crate) fn plain_fields(plate: &[u8], at: usize) -> usize
     requires { ⌜ (at ≤ farthest 1) × (at / 8 + 20 ≤ length (now plate)) ⌝ }
     ensures { λ r. ⌜ (r ≤ 144) × ((r ≡ 0 → ⊥) → To (at + r) ≡ fieldsStep (now (plate .entry)) at) ⌝ }
 {
-    let w = window_in(plate, at);
-    let quick = quick_fields(w);
-    if 0 < quick {
-        return quick;
-    }
-    let bits = single_fields(w);
+    let bits = quick_fields(window_in(plate, at));
     if 0 < bits {
         return bits;
     }

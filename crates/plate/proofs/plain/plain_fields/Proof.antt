@@ -1,4 +1,4 @@
--- `plate::plain::plain_fields` meets its contract: quick fields, single ones, or short ones. Assumes nothing.
+-- `plate::plain::plain_fields` meets its contract: quick fields, or short ones. Assumes nothing.
 use native.Mathlib.Omega.{arith}
 use borrow.Author.Needs.{needs}
 use Rattle.plate.proofs.Windows.{front}
@@ -22,26 +22,12 @@ returns c =
     let w = seen .window-in in
     (omega arith, λ some. bits .ensures .1 some s (a .at) (front s (a .at) 57 (w .result) (w .ensures) (omega arith) 41 (omega arith)))
 
-single-fields-requires : tie.Need-single-fields-requires
-single-fields-requires c κs = tt
-
-returns-2 : tie.Need-returns-2
-returns-2 c =
-    let told = c .before in
-    let seen = told .before .before .before in
-    let a = seen .before .before .args in
-    let bits = told .single-fields in
-    let few = bits .ensures .0 in
-    let s = a .plate .now in
-    let w = seen .window-in in
-    (omega arith, λ some. bits .ensures .1 some s (a .at) (front s (a .at) 57 (w .result) (w .ensures) (omega arith) 45 (omega arith)))
-
 short-fields-requires : tie.Need-short-fields-requires
 short-fields-requires c κs = search needs
 
-returns-3 : tie.Need-returns-3
-returns-3 c = c .short-fields .ensures
+returns-2 : tie.Need-returns-2
+returns-2 c = c .short-fields .ensures
 
 pub plain-fields-spec : {M : Type 1} → statement M
 plain-fields-spec =
-    tie.close (tie.spec window-in-requires quick-fields-requires returns single-fields-requires returns-2 short-fields-requires returns-3)
+    tie.close (tie.spec window-in-requires quick-fields-requires returns short-fields-requires returns-2)

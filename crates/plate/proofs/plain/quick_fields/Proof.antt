@@ -6,25 +6,17 @@ use Rattle.plate.proofs.Shapes.{in-row}
 use Rattle.plate.proofs.plain.quick_fields.Statement.{statement}
 use Rattle.plate.proofs.plain.quick_fields.Tie as tie
 
+three-digits-requires : tie.Need-three-digits-requires
+three-digits-requires c κs = tt
+
+returns : tie.Need-returns
+returns c = (omega arith, c .before .three-digits .ensures (c .if1 .taken))
+
 is-digit-requires : tie.Need-is-digit-requires
 is-digit-requires c κs = tt
 
 is-digit-requires-2 : tie.Need-is-digit-requires-2
 is-digit-requires-2 c κs = tt
-
-is-digit-requires-3 : tie.Need-is-digit-requires-3
-is-digit-requires-3 c κs = tt
-
-returns : tie.Need-returns
-returns c =
-    let third = c .before in
-    let second = third .before .before in
-    let first = second .before .before in
-    let w = first .before .args .w in (
-      omega arith,
-      in-row 41 11 w 11 11 11 (omega arith) (omega arith) (first .is-digit .ensures (second .before .if1 .taken)) (second .is-digit2 .ensures (third .before .if2 .taken))
-          (third .is-digit3 .ensures (c .if3 .taken)) (λ e. omega arith) (λ e. omega arith) (λ e. omega arith),
-    )
 
 is-empty-requires : tie.Need-is-empty-requires
 is-empty-requires c κs = tt
@@ -32,12 +24,12 @@ is-empty-requires c κs = tt
 returns-2 : tie.Need-returns-2
 returns-2 c =
     let third = c .before in
-    let second = third .before .before .before .before in
+    let second = third .before .before in
     let first = second .before .before in
-    let w = first .before .args .w in (
+    let w = first .before .before .before .args .w in (
       omega arith,
-      in-row 41 11 w 11 11 7 (omega arith) (omega arith) (first .is-digit .ensures (second .before .if1 .taken))
-          (second .is-digit2 .ensures (third .before .before .before .if2 .taken))
+      in-row 41 11 w 11 11 7 (omega arith) (omega arith) (first .is-digit .ensures (second .before .if2 .taken))
+          (second .is-digit2 .ensures (third .before .if3 .taken))
           (third .is-empty .ensures (c .if4 .taken)) (λ e. omega arith) (λ e. omega arith) (λ e. omega arith),
     )
 
@@ -55,9 +47,9 @@ returns-4 c =
     let third = c .before in
     let second = third .before .before in
     let first = second .before .before .before .before in
-    let w = first .before .args .w in (
+    let w = first .before .before .before .args .w in (
       omega arith,
-      in-row 41 11 w 11 7 7 (omega arith) (omega arith) (first .is-digit .ensures (second .before .before .before .if1 .taken))
+      in-row 41 11 w 11 7 7 (omega arith) (omega arith) (first .is-digit .ensures (second .before .before .before .if2 .taken))
           (second .is-empty2 .ensures (third .before .if5 .taken))
           (third .is-empty3 .ensures (c .if6 .taken)) (λ e. omega arith) (λ e. omega arith) (λ e. omega arith),
     )
@@ -77,8 +69,8 @@ returns-6 c =
     let second = third .before .before in
     let digit = second .before .before .before .before in
     let first = digit .before .before in
-    let w = first .before .args .w in
-    let one = first .is-digit .ensures (digit .before .if1 .taken) in (
+    let w = first .before .before .before .args .w in
+    let one = first .is-digit .ensures (digit .before .if2 .taken) in (
       omega arith,
       in-row 41 15 w 11 15 15 (omega arith) (omega arith) (λ some s at held. one some s at (front s at 15 w held (omega arith) 11 (omega arith)))
           (second .is-pair .ensures (third .before .if7 .taken)) (third .is-pair2 .ensures (c .if8 .taken)) (λ e. omega arith) (λ e. omega arith) (λ e. omega arith),
@@ -97,10 +89,10 @@ pub quick-fields-spec : {M : Type 1} → statement M
 quick-fields-spec =
     tie.close
     (tie.spec
+    three-digits-requires
+    returns
     is-digit-requires
     is-digit-requires-2
-    is-digit-requires-3
-    returns
     is-empty-requires
     returns-2
     returns-3
