@@ -1,14 +1,17 @@
 -- Shapes told by masks: bits that are zero in a number's mask, and what they tell of the numbers in front of a window. Assumes nothing.
-use Prim.Native.Nat.{ℕ, _+_, _-_, _*_, _/_, _%_, _^_, _<_, _≤_}
+use Prim.Native.Nat.{ℕ, zero, suc, _+_, _-_, _*_, _/_, _%_, _^_, _<_, _≤_}
 use mathlib.Core.Path.{_≡_, refl, sym, _∙_, ap, subst}
+use mathlib.Core.Bool.{true}
+use mathlib.Core.List.{List}
 use native.Mathlib.Nat.{mod-lt, mod-eq-of-lt, div-one}
 use native.Mathlib.Omega.{arith}
-use lib.Pow.{pow-pos}
+use lib.Pow.{pow-pos, shl-shr, shr-shr, field, mod-mod-pow}
 use lib.Bits.{bitAnd, bitOr, bitXor, or-add-and, xor-add-and, xor-zero-r, xor-lt, xor-shr, xor-mod, and-le-l, and-le-r, and-mask, and-shr, and-mod, or-shr, or-mod}
-use Rattle.plate.specs.Answers.{fieldsStep}
-use Rattle.plate.specs.Plain.{Takes}
+use Rattle.plate.specs.Window.{Holds}
+use Rattle.plate.specs.Answers.{bytesAt, goodText, fieldsStep}
+use Rattle.plate.specs.Plain.{Takes, Ascii}
 use Rattle.plate.proofs.Accepted.{digit-field}
-use Rattle.plate.proofs.Shapes.{in-row}
+use Rattle.plate.proofs.Shapes.{in-row, pass-one, Rest, rest-all, rest-turn, rest-none}
 
 -- Bits that a mask of two numbers' bits finds zero are zero in both: the n from place k on, where the mask is ones.
 pub both-zero : (n k a b mask : ℕ) → mask / 2 ^ k % 2 ^ n ≡ 2 ^ n - 1 → 0 / 2 ^ k % 2 ^ n ≡ 0 → bitAnd (bitOr a b) mask ≡ 0
@@ -156,3 +159,95 @@ three-digits w few clear =
     (λ _ s at held. digit-field s at second held (omega (arith, two .0)) (omega (arith, two .1)))
     (λ _ s at held. digit-field s at third held (omega (arith, half .0)) (omega (arith, half .1)))
     (λ e. omega arith) (λ e. omega arith) (λ e. omega arith)
+
+-- ---- ASCII bytes, not zero: neither they nor they less one have their first bit, unless one is borrowed
+
+-- The first bit of each of the first n bytes is zero, and each is 1.
+abbrev Low : ℕ → ℕ → Type 0
+Low zero v = Unit {0}
+Low (suc n) v = (v < 9223372036854775808) × Low n (v * 256 % 18446744073709551616)
+
+abbrev Ones : ℕ → ℕ → Type 0
+Ones zero v = Unit {0}
+Ones (suc n) v = (v / 72057594037927936 ≡ 1) × Ones n (v * 256 % 18446744073709551616)
+
+ones-less : (n m v : ℕ) → n ≤ m → Ones m v → Ones n v
+ones-less zero m v h o = tt
+ones-less (suc n) zero v h o = absurd (omega arith)
+ones-less (suc n) (suc m) v h o = (o .0, ones-less n m (v * 256 % 18446744073709551616) (omega arith) (o .1))
+
+ascii-front : (u w k : ℕ) → u < 9223372036854775808 → w < 9223372036854775808 → k / 72057594037927936 ≡ 1 → (u + k) % 18446744073709551616 ≡ w → Ascii w
+ascii-front u w k a b one sum = (omega (arith, a, one, sum), b)
+
+shifted-sum : (u w k : ℕ) → (u + k) % 18446744073709551616 ≡ w
+    → (u * 256 % 18446744073709551616 + k * 256 % 18446744073709551616) % 18446744073709551616 ≡ w * 256 % 18446744073709551616
+shifted-sum u w k sum = omega (arith, sum)
+
+-- So the bytes left are text.
+low-text : (w n left u rest k : ℕ) → Rest w n rest left → left ≤ 6 → (u + k) % 18446744073709551616 ≡ rest → Ones left k → Low left u → Low left rest
+    → (s : List ℕ) (at : ℕ) → Holds s at (8 * n) w → goodText (bytesAt s n at) ≡ true
+low-text w n zero u rest k all few sum ones a b = rest-none w n rest zero all (omega arith)
+low-text w n (suc left) u rest k all few sum ones a b =
+    let less : suc left - 1 ≡ left = omega arith in
+    let behind = rest-turn w n rest (suc left) 1 all few (omega arith) (pass-one rest (ascii-front u rest k (a .0) (b .0) (ones .0) sum)) in
+    low-text w n left (u * 256 % 18446744073709551616) (rest * 256 % 18446744073709551616) (k * 256 % 18446744073709551616)
+    (subst (Rest w n (rest * 256 % 18446744073709551616)) less behind) (omega arith) (shifted-sum u rest k sum) (ones .1) (a .1) (b .1)
+
+-- Behind a byte the first bit of byte k is that of byte k + 1.
+next-bit : (v k : ℕ) → k ≤ 5 → v * 256 % 2 ^ 64 / 2 ^ (63 - 8 * k) % 2 ≡ v / 2 ^ (63 - 8 * suc k) % 2
+next-bit v k few =
+    let e = 63 - 8 * k in
+    let all : 64 ≡ 8 * k + 1 + e = omega arith in
+    let more : e ≡ 8 + (63 - 8 * suc k) = omega arith in
+    ap (λ (x : ℕ). v * 256 % 2 ^ x / 2 ^ e % 2) all
+    ∙ ap (λ (x : ℕ). x % 2) (field (v * 256) (8 * k + 1) e)
+    ∙ mod-mod-pow (v * 256 / 2 ^ e) (8 * k) 1
+    ∙ ap (λ (x : ℕ). v * 256 / 2 ^ x % 2) more
+    ∙ ap (λ (x : ℕ). x % 2) (sym (shr-shr (v * 256) 8 (63 - 8 * suc k)) ∙ ap (λ (x : ℕ). x / 2 ^ (63 - 8 * suc k)) (shl-shr v 8))
+
+low-from : (n v : ℕ) → v < 18446744073709551616 → n ≤ 6 → ((k : ℕ) → k < n → v / 2 ^ (63 - 8 * k) % 2 ≡ 0) → Low n v
+low-from zero v l few bits = tt
+low-from (suc n) v l few bits =
+    let first : v / 9223372036854775808 % 2 ≡ 0 = bits 0 (omega arith) in (
+      omega (arith, l, first),
+      low-from n (v * 256 % 18446744073709551616) (omega arith) (omega arith) (λ k h. next-bit v k (omega arith) ∙ bits (suc k) (omega arith)),
+    )
+
+-- What the mask tells of each byte.
+ones-at : (i : ℕ) → i < 6 → (9259542123273814144 / 2 ^ (8 * i + 7) % 2 ^ 1 ≡ 1) × (0 / 2 ^ (8 * i + 7) % 2 ^ 1 ≡ 0)
+ones-at zero h = (refl, refl)
+ones-at (suc zero) h = (refl, refl)
+ones-at (suc (suc zero)) h = (refl, refl)
+ones-at (suc (suc (suc zero))) h = (refl, refl)
+ones-at (suc (suc (suc (suc zero)))) h = (refl, refl)
+ones-at (suc (suc (suc (suc (suc zero))))) h = (refl, refl)
+ones-at (suc (suc (suc (suc (suc (suc i)))))) h = absurd (omega arith)
+
+module _ (u w n : ℕ) (few : n ≤ 6) (clear : bitAnd (bitOr u w / 2 ^ (64 - 8 * n)) 9259542123273814144 ≡ 0) where
+  first-bits : (k : ℕ) → k < n → (u / 2 ^ (63 - 8 * k) % 2 ≡ 0) × (w / 2 ^ (63 - 8 * k) % 2 ≡ 0)
+  first-bits k h =
+      let s = 64 - 8 * n in
+      let i = n - 1 - k in
+      let j = 8 * i + 7 in
+      let place : s + j ≡ 63 - 8 * k = omega (arith, h, few) in
+      let ones = ones-at i (omega (arith, h, few)) in
+      let z = both-zero 1 j (u / 2 ^ s) (w / 2 ^ s) 9259542123273814144 (ones .0) (ones .1) (ap (λ (x : ℕ). bitAnd x 9259542123273814144) (sym (or-shr u w s)) ∙ clear) in
+      let there : (v : ℕ) → v / 2 ^ (63 - 8 * k) % 2 ≡ v / 2 ^ s / 2 ^ j % 2 = λ v. ap (λ (x : ℕ). v / 2 ^ x % 2) (sym place) ∙ ap (λ (x : ℕ). x % 2) (sym (shr-shr v s j)) in
+      (there u ∙ z .0, there w ∙ z .1)
+
+  module _ (some : 1 ≤ n) (u-few : u < 18446744073709551616) (w-few : w < 18446744073709551616) (sum : (u + 72340172838076673) % 18446744073709551616 ≡ w) where
+    u-low : Low n u
+    u-low = low-from n u u-few few (λ k h. first-bits k h .0)
+
+    w-low : Low n w
+    w-low = low-from n w w-few few (λ k h. first-bits k h .1)
+
+    pub low-ascii : Ascii w
+    low-ascii =
+        let a : u / 9223372036854775808 % 2 ≡ 0 = first-bits 0 some .0 in
+        let b : w / 9223372036854775808 % 2 ≡ 0 = first-bits 0 some .1 in
+        ascii-front u w 72340172838076673 (omega (arith, u-few, a)) (omega (arith, w-few, b)) refl sum
+
+    pub all-low : (s : List ℕ) (at : ℕ) → Holds s at (8 * n) w → goodText (bytesAt s n at) ≡ true
+    all-low =
+        low-text w n n u w 72340172838076673 (rest-all w n) few sum (ones-less n 6 72340172838076673 few (refl, (refl, (refl, (refl, (refl, (refl, tt))))))) u-low w-low

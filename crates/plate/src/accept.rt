@@ -38,6 +38,7 @@ use super::note::note_group;
 use super::pattern;
 use super::plain::plain_code;
 use super::plain::plain_fields;
+use super::plain::quick_code;
 use super::plain::short_field;
 use super::plain::single_fields;
 use super::plain::target_in;
@@ -194,7 +195,7 @@ fn accept_rule(plate: &[u8], at: usize) -> Seen
     }
     let w = window_in(plate, at);
     let length = part(w, 0, 5) as usize;
-    let code = plain_code(w << 5, length);
+    let code = quick_code(w << 5, length);
     if code == 0 {
         return any_rule(plate, at);
     }

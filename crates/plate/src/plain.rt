@@ -12,6 +12,7 @@ ghost use Rattle.plate.specs.Plain.{Takes, Passes, Ascii, Double};
 ghost use Rattle.plate.specs.declared.Step.the-variants.{To};
 ghost use Rattle.plate.specs.declared.First.the-variants.{Code};
 use super::window::window_in;
+use std::num::wrapping_sub_u64;
 
 // An ASCII byte, not zero, stands in front of a window.
 fn is_ascii(w: u64) -> bool
@@ -45,24 +46,13 @@ pub(crate) fn five_ascii(w: u64) -> bool
     false
 }
 
-// So do n such bytes. The loop ends inside its turn: with a test in front LLVM tests twice.
+// So do n such bytes, all tested at once: each is one where neither it nor it less one has its first bit. What is borrowed from a byte refuses more, never less.
 fn all_ascii(w: u64, n: usize) -> bool
     requires { ⌜ (1 ≤ n) × (n ≤ 6) ⌝ }
     ensures { λ r. ⌜ (r ≡ true → Ascii w × ((s : List ℕ) (at : ℕ) → Holds s at (8 * n) w → goodText (bytesAt s n at) ≡ true)) ⌝ }
 {
-    let mut rest = w;
-    let mut left = n;
-    loop {
-        if is_ascii(rest) {
-            left -= 1;
-            if left == 0 {
-                return true;
-            }
-            rest = rest << 8;
-            continue;
-        }
-        return false;
-    }
+    let less = wrapping_sub_u64(w, 0x0101010101010101);
+    ((less | w) >> (64 - 8 * n)) & 0x8080808080808080 == 0
 }
 
 // A character of two bytes stands in front of a window: 110, then 10; the first byte is 0xC2 at least.
@@ -152,10 +142,23 @@ pub(crate) fn plain_code(w: u64, n: usize) -> u32
     if 6 < n {
         return 0;
     }
+    short_code(w, n)
+}
+
+// The same; ASCII, which most patterns are, at once.
+pub(crate) fn quick_code(w: u64, n: usize) -> u32
+    ensures { λ r. ⌜ ((r ≡ 0 → ⊥) → (n ≤ 6) × ((s : List ℕ) (at : ℕ) → Holds s at 48 w → Code r ≡ firstOf (bytesAt s n at))) ⌝ }
+{
+    if n < 1 {
+        return 0;
+    }
+    if 6 < n {
+        return 0;
+    }
     if all_ascii(w, n) {
         return (w >> 56) as u32;
     }
-    short_code(w, n)
+    plain_code(w, n)
 }
 
 // A field of one alternative of one digit stands in front of a window: 0001, 001, and a digit of 0 to 9.

@@ -28,13 +28,13 @@ length-is c =
 is-code : (c : tie.Else2) →
     let coded = c .before in
     let counted = coded .before in
-    let a = entry counted .args in FirstIs.Code (coded .plain-code .result) ≡ firstOf (bytesAt (a .plate .now) (counted .part .result) (a .at + 5))
+    let a = entry counted .args in FirstIs.Code (coded .quick-code .result) ≡ firstOf (bytesAt (a .plate .now) (counted .part .result) (a .at + 5))
 is-code c =
     let coded = c .before in
     let seen = coded .before .before in
     let a = entry (coded .before) .args in
     let w = seen .window-in in
-    coded .plain-code .ensures (c .if2 .left) .1 (a .plate .now) (a .at + 5)
+    coded .quick-code .ensures (c .if2 .left) .1 (a .plate .now) (a .at + 5)
     (behind-held (a .plate .now) (a .at) 57 (w .result) 5 48 (w .ensures) (omega arith) (omega arith))
 
 add-if1 : tie.Need-add-if1
@@ -52,8 +52,8 @@ window-in-requires c κs = search needs
 part-requires : tie.Need-part-requires
 part-requires c κs = search needs
 
-plain-code-requires : tie.Need-plain-code-requires
-plain-code-requires c κs = search needs
+quick-code-requires : tie.Need-quick-code-requires
+quick-code-requires c κs = search needs
 
 any-rule-requires : tie.Need-any-rule-requires
 any-rule-requires c κs = search needs
@@ -74,7 +74,7 @@ plain-fields-requires : tie.Need-plain-fields-requires
 plain-fields-requires c κs =
     let coded = c .before in
     let far = coded .before .before .before in
-    let few = coded .plain-code .ensures (c .if2 .left) .0 in
+    let few = coded .quick-code .ensures (c .if2 .left) .0 in
     let room = far .if1 .left in
     (omega arith, omega arith)
 
@@ -103,7 +103,7 @@ returns-4 c =
     let counted = plain .before .before in
     let a = entry counted .args in
     let n = counted .part .result in
-    let code = plain .before .plain-code in
+    let code = plain .before .quick-code in
     let few = code .ensures (plain .if2 .left) .0 in
     let b = fields .plain-fields in
     let short = b .ensures .0 in
@@ -121,7 +121,7 @@ accept-rule-spec =
     returns
     window-in-requires
     part-requires
-    plain-code-requires
+    quick-code-requires
     any-rule-requires
     returns-2
     add-plain-fields
