@@ -2,12 +2,14 @@
 ghost use mathlib.Core.Path.{_≡_};
 ghost use mathlib.Core.Bool.{true};
 ghost use mathlib.Core.Logic.{_⊎_};
-ghost use Prim.Native.Nat.{_+_, _≤_, _<_};
+ghost use mathlib.Core.List.{List};
+ghost use Prim.Native.Nat.{ℕ, _+_, _≤_, _<_};
 ghost use lib.ListN.{length, take};
 ghost use Rattle.chars.specs.Digits.{isAlternative};
 ghost use Rattle.plate.specs.Plate.{mostBytes};
 ghost use Rattle.plate.specs.Most.{ruleMost, farthest};
 ghost use Rattle.plate.specs.Read.{alternativeAt, fieldEnd, patternAt, ruleAt, foldBy, rulesPlace, countWidth, accepted, plateIn};
+ghost use Rattle.plate.specs.Window.{Holds};
 ghost use Rattle.plate.specs.Stands.{Here, Stands, Mark, LetterIs, fieldOf, fieldPlace, heldAlternative, heldField, firstKey, beginning, heldSingle};
 use super::Alternative;
 use super::Beginning;
@@ -25,6 +27,7 @@ use super::bits::size;
 use super::edition::width_of;
 use super::pattern;
 use super::window::window;
+use super::window::window_in;
 
 // The places in the head, but for the width of the rule count: 8 bits edition, the rule count, 8 bits folding count, the folding flag.
 const RULE_COUNT: usize = 8;
@@ -130,12 +133,11 @@ pub fn pattern_length(plate: &[u8], at: usize) -> usize
     size(plate, at, 5)
 }
 
-// Whether the pattern begins the characters ahead, of which the first `plain` stand as bytes in front of a word: by one comparison, where it has no more.
-pub fn pattern_begins(plate: &[u8], at: usize, word: u64, plain: usize) -> Beginning
-    requires { ⌜ Here (now plate) at × (plain ≤ 6) ⌝ }
-    ensures { λ r. ⌜ r ≡ beginning (patternAt (now (plate .entry)) at) word plain ⌝ }
+// Whether the pattern in front of a window begins the characters ahead.
+fn begins_in(w: u64, word: u64, plain: usize) -> Beginning
+    requires { ⌜ (plain ≤ 6) × (0x0800000000000000 ≤ w) ⌝ }
+    ensures { λ r. ⌜ ((s : List ℕ) (at : ℕ) → Holds s at 57 w → r ≡ beginning (patternAt s at) word plain) ⌝ }
 {
-    let w = window(plate, at);
     let n = (w >> 59) as usize;
     if plain < n {
         return Beginning::Unsaid;
@@ -145,6 +147,18 @@ pub fn pattern_begins(plate: &[u8], at: usize, word: u64, plain: usize) -> Begin
         return Beginning::Is(n);
     }
     Beginning::Not
+}
+
+// Whether the pattern begins the characters ahead, of which the first `plain` stand as bytes in front of a word: by one comparison, where it has no more.
+// Away from the plate's end no byte is looked for.
+pub fn pattern_begins(plate: &[u8], at: usize, word: u64, plain: usize) -> Beginning
+    requires { ⌜ Here (now plate) at × (plain ≤ 6) ⌝ }
+    ensures { λ r. ⌜ r ≡ beginning (patternAt (now (plate .entry)) at) word plain ⌝ }
+{
+    if at / 8 + 8 <= plate.len() {
+        return begins_in(window_in(plate, at), word, plain);
+    }
+    begins_in(window(plate, at), word, plain)
 }
 
 // The character of the pattern that begins at its byte k; ASCII by one read.
