@@ -286,28 +286,30 @@ pub(crate) fn single_fields(w: u64) -> usize
     start + vowel + other
 }
 
-// The bits of a field of at most four such alternatives.
+// The bits of a field of one or two such alternatives.
 pub(crate) fn short_field(w: u64) -> usize
     ensures { λ r. ⌜ (r ≤ 48) × Takes fieldStep 48 w r ⌝ }
 {
-    let n = (w >> 60) as usize;
-    if n < 1 {
-        return 0;
-    }
-    if 4 < n {
-        return 0;
-    }
-    let mut bits: usize = 4;
-    let mut left = n;
-    while 0 < left {
-        let more = short_alternative(w << bits);
-        if more == 0 {
+    let n = w >> 60;
+    if n == 1 {
+        let only = short_alternative(w << 4);
+        if only == 0 {
             return 0;
         }
-        bits += more;
-        left -= 1;
+        return 4 + only;
     }
-    bits
+    if n == 2 {
+        let first = short_alternative(w << 4);
+        if first == 0 {
+            return 0;
+        }
+        let second = short_alternative(w << (4 + first));
+        if second == 0 {
+            return 0;
+        }
+        return 4 + first + second;
+    }
+    0
 }
 
 // The bits of three such fields at a place. Two of them end no later than 96 bits behind it, and a window lies eight bytes behind.

@@ -1,95 +1,94 @@
--- `plate::plain::short_field` meets its contract: the alternatives left are good and end where all do; each turn takes the first one off (Shapes.left-turn),
--- and no more than 11 bits pass. Assumes nothing.
-use Prim.Native.Nat.{_+_, _*_, _/_, _≤_}
-use mathlib.Core.Path.{refl}
+-- `plate::plain::short_field` meets its contract: one alternative behind its count (Shapes.single), or two (Shapes.left-turn, twice). Assumes nothing.
+use Prim.Native.Nat.{_+_, _≤_}
+use mathlib.Core.Path.{_≡_, refl, sym}
 use native.Mathlib.Omega.{arith}
-use Rattle.plate.proofs.Shapes.{Left, left-all, left-turn, left-none}
+use borrow.Author.Needs.{needs}
+use Rattle.plate.proofs.Windows.{front}
+use Rattle.plate.proofs.Shapes.{single, left-all, left-turn, left-none}
 use Rattle.plate.proofs.plain.short_field.Statement.{statement}
 use Rattle.plate.proofs.plain.short_field.Tie as tie
 
-abbrev Inv-loop : tie.InvT-loop
-Inv-loop w n bits₀ left₀ bits left = (bits + 11 * left ≤ 4 + 11 * n) × Left w n bits left
+short-alternative-requires : tie.Need-short-alternative-requires
+short-alternative-requires c κs = search needs
 
-abbrev μ-loop : tie.MeasureT-loop
-μ-loop w n bits₀ left₀ bits left = left
-
-returns : tie.Need-returns Inv-loop μ-loop
+returns : tie.Need-returns
 returns c = (omega arith, λ some. absurd (some refl))
 
-returns-2 : tie.Need-returns-2 Inv-loop μ-loop
-returns-2 c = (omega arith, λ some. absurd (some refl))
+add-result : tie.Need-add-result
+add-result c = let small = c .before .short-alternative .ensures .0 in omega arith
 
-loop-holds : tie.Need-loop-holds Inv-loop μ-loop
-loop-holds c =
-    let w = c .before .before .args .w in
-    (omega arith, left-all w (w / 1152921504606846976))
-
-shl-short-alternative : tie.Need-shl-short-alternative Inv-loop μ-loop
-shl-short-alternative c =
-    let few = c .before .before .if2 .left in
-    omega arith
-
-short-alternative-requires : tie.Need-short-alternative-requires Inv-loop μ-loop
-short-alternative-requires c κs = tt
-
-returns-3 : tie.Need-returns-3 Inv-loop μ-loop
-returns-3 c = (omega arith, λ some. absurd (some refl))
-
-add-bits : tie.Need-add-bits Inv-loop μ-loop
-add-bits c =
-    let counted = c .before .before .before .before in
-    let few = counted .if2 .left in
-    let small = c .before .short-alternative .ensures .0 in
-    omega arith
-
-sub-left : tie.Need-sub-left Inv-loop μ-loop
-sub-left c = omega arith
-
-loop-less : tie.Need-loop-less Inv-loop μ-loop
-loop-less c = omega arith
-
-loop-again : tie.Need-loop-again Inv-loop μ-loop
-loop-again c =
+returns-2 : tie.Need-returns-2
+returns-2 c =
     let read = c .before in
-    let turn = read .before in
-    let at-loop = turn .before in
-    let counted = at-loop .before in
-    let w = counted .before .before .args .w in
-    let l = at-loop .loop in
-    let b = read .short-alternative in
-    let few = counted .if2 .left in
-    let more = turn .loop-test .taken in
-    let small = b .ensures .0 in
-    let sum = l .inv .0 in
-    let within : l .bits ≤ 37 = omega (arith, few, more, sum) in (
-      omega (arith, few, more, sum, small),
-      left-turn w (w / 1152921504606846976) (l .bits) (l .left) (b .result) (l .inv .1) more within (b .ensures .1) (c .if3 .left),
+    let one = read .before in
+    let w = one .before .args .w in
+    let only = read .short-alternative in
+    let small = only .ensures .0 in (
+      omega (arith, small),
+      λ some s at held.
+          single w (only .result) (one .if1 .taken) (only .ensures .1) (c .if2 .left) some s at (front s at 48 w held (omega arith) 15 (omega arith)),
     )
 
-returns-4 : tie.Need-returns-4 Inv-loop μ-loop
-returns-4 c =
-    let at-loop = c .before in
-    let counted = at-loop .before in
-    let w = counted .before .before .args .w in
-    let l = at-loop .loop in
-    let few = counted .if2 .left in
-    let sum = l .inv .0 in
-    (omega (arith, few, sum), left-none w (w / 1152921504606846976) (l .bits) (l .left) (l .inv .1) (c .loop-test .left) refl (counted .before .if1 .left) few)
+short-alternative-requires-2 : tie.Need-short-alternative-requires-2
+short-alternative-requires-2 c κs = search needs
+
+returns-3 : tie.Need-returns-3
+returns-3 c = (omega arith, λ some. absurd (some refl))
+
+add-short-alternative : tie.Need-add-short-alternative
+add-short-alternative c = let small = c .before .short-alternative2 .ensures .0 in omega arith
+
+shl-short-alternative : tie.Need-shl-short-alternative
+shl-short-alternative c = let small = c .before .short-alternative2 .ensures .0 in omega arith
+
+short-alternative-requires-3 : tie.Need-short-alternative-requires-3
+short-alternative-requires-3 c κs = search needs
+
+returns-4 : tie.Need-returns-4
+returns-4 c = (omega arith, λ some. absurd (some refl))
+
+add-result-2 : tie.Need-add-result-2
+add-result-2 c = let small = c .before .before .before .short-alternative2 .ensures .0 in omega arith
+
+add-result-3 : tie.Need-add-result-3
+add-result-3 c =
+    let small = c .before .before .before .short-alternative2 .ensures .0 in
+    let small-2 = c .before .short-alternative3 .ensures .0 in omega arith
+
+returns-5 : tie.Need-returns-5
+returns-5 c =
+    let read-2 = c .before in
+    let some = read-2 .before in
+    let read = some .before in
+    let two = read .before in
+    let w = two .before .before .args .w in
+    let first = read .short-alternative2 in
+    let second = read-2 .short-alternative3 in
+    let small = first .ensures .0 in
+    let small-2 = second .ensures .0 in
+    let within : 4 + first .result ≤ 37 = omega (arith, small) in
+    let one-left = left-turn w 2 4 2 (first .result) (left-all w 2) (omega arith) (omega arith) (first .ensures .1) (some .if4 .left) in
+    let none-left = left-turn w 2 (4 + first .result) 1 (second .result) one-left (omega arith) within (second .ensures .1) (c .if5 .left) in
+    (omega (arith, small, small-2), left-none w 2 (4 + first .result + second .result) 0 none-left (omega arith) (sym (two .if3 .taken)) (omega arith) (omega arith))
+
+returns-6 : tie.Need-returns-6
+returns-6 c = (omega arith, λ some. absurd (some refl))
 
 pub short-field-spec : {M : Type 1} → statement M
 short-field-spec =
     tie.close
     (tie.spec
-    Inv-loop
-    μ-loop
-    returns
-    returns-2
-    loop-holds
-    shl-short-alternative
     short-alternative-requires
+    returns
+    add-result
+    returns-2
+    short-alternative-requires-2
     returns-3
-    add-bits
-    sub-left
-    loop-less
-    loop-again
-    returns-4)
+    add-short-alternative
+    shl-short-alternative
+    short-alternative-requires-3
+    returns-4
+    add-result-2
+    add-result-3
+    returns-5
+    returns-6)
