@@ -156,24 +156,24 @@ in-row p q w a b c few fits e f g a-some b-some c-some = λ _ s at held.
 -- ---- alternatives one by one: those left behind the first `bits` of a window are all
 
 pub Left : ℕ → ℕ → ℕ → ℕ → Type 0
-Left w n bits left = (s : List ℕ) (at : ℕ) → Holds s at 48 w → alternativesStep s left (at + bits) ≡ alternativesStep s n (at + 4)
+Left w n bits left = (s : List ℕ) (at : ℕ) → Holds s at 26 w → alternativesStep s left (at + bits) ≡ alternativesStep s n (at + 4)
 
 pub left-all : (w n : ℕ) → Left w n 4 n
 unfolding Left
 left-all w n = λ s at held. refl
 
-pub left-turn : (w n bits left b : ℕ) → Left w n bits left → 0 < left → bits ≤ 37 → Takes alternativeStep 11 (w * 2 ^ bits % 2 ^ 64) b → (b ≡ 0 → ⊥) → Left w n (bits + b) (left - 1)
+pub left-turn : (w n bits left b : ℕ) → Left w n bits left → 0 < left → bits ≤ 15 → Takes alternativeStep 11 (w * 2 ^ bits % 2 ^ 64) b → (b ≡ 0 → ⊥) → Left w n (bits + b) (left - 1)
 unfolding Left
 left-turn w n bits left b all more few takes some = λ s at held.
     ap (alternativesStep s (left - 1)) {x = at + (bits + b)} {y = at + bits + b} (omega arith)
-    ∙ alternatives-turn s (at + bits) left more (To (at + bits + b)) (takes some s (at + bits) (behind-held s at 48 w bits 11 held (omega arith) (omega arith))) (at + bits + b) refl
+    ∙ alternatives-turn s (at + bits) left more (To (at + bits + b)) (takes some s (at + bits) (behind-held s at 26 w bits 11 held (omega arith) (omega arith))) (at + bits + b) refl
     ∙ all s at held
 
-pub left-none : (w n bits left : ℕ) → Left w n bits left → left ≤ 0 → n ≡ w / 1152921504606846976 → 1 ≤ n → n ≤ 4 → Takes fieldStep 48 w bits
+pub left-none : (w n bits left : ℕ) → Left w n bits left → left ≤ 0 → n ≡ w / 1152921504606846976 → 1 ≤ n → n ≤ 2 → Takes fieldStep 26 w bits
 unfolding Left
 left-none w n bits left all none counted some few = λ _ s at held.
     sym (alternatives-end s left (at + bits) none) ∙ all s at held
-    ∙ field-is s at n (counted ∙ front s at 48 w held (omega arith) 4 (omega arith)) some (omega arith)
+    ∙ field-is s at n (counted ∙ front s at 26 w held (omega arith) 4 (omega arith)) some (omega arith)
 
 -- ---- bytes that pass
 

@@ -184,13 +184,13 @@ fn end_rule(plate: &[u8], at: usize) -> Seen
     Seen::Good(code, length, at + 5 + 8 * length + bits)
 }
 
-// The rule at a place; a plain one, far from the end, by its shape. The last window over it begins no later than 149 bits behind its place, and is eight
-// bytes long: 27 bytes are read at most.
+// The rule at a place; a plain one, far from the end, by its shape. The last window over it begins no later than 105 bits behind its place, and is eight
+// bytes long: 22 bytes are read at most.
 fn accept_rule(plate: &[u8], at: usize) -> Seen
     requires { ⌜ at ≤ plateMost ⌝ }
     ensures { λ r. ⌜ (r ≡ ruleMade (now (plate .entry)) at) × seenTo r (at + ruleMost) ⌝ }
 {
-    if plate.len() < at / 8 + 27 {
+    if plate.len() < at / 8 + 22 {
         return end_rule(plate, at);
     }
     let w = window_in(plate, at);

@@ -288,7 +288,7 @@ pub(crate) fn single_fields(w: u64) -> usize
 
 // The bits of a field of one or two such alternatives.
 pub(crate) fn short_field(w: u64) -> usize
-    ensures { λ r. ⌜ (r ≤ 48) × Takes fieldStep 48 w r ⌝ }
+    ensures { λ r. ⌜ (r ≤ 26) × Takes fieldStep 26 w r ⌝ }
 {
     let n = w >> 60;
     if n == 1 {
@@ -312,10 +312,10 @@ pub(crate) fn short_field(w: u64) -> usize
     0
 }
 
-// The bits of three such fields at a place. Two of them end no later than 96 bits behind it, and a window lies eight bytes behind.
+// The bits of three such fields at a place. Two of them end no later than 52 bits behind it, and a window is eight bytes long.
 fn short_fields(plate: &[u8], at: usize) -> usize
-    requires { ⌜ (at ≤ farthest 1) × (at / 8 + 20 ≤ length (now plate)) ⌝ }
-    ensures { λ r. ⌜ (r ≤ 144) × ((r ≡ 0 → ⊥) → To (at + r) ≡ fieldsStep (now (plate .entry)) at) ⌝ }
+    requires { ⌜ (at ≤ farthest 1) × (at / 8 + 15 ≤ length (now plate)) ⌝ }
+    ensures { λ r. ⌜ (r ≤ 78) × ((r ≡ 0 → ⊥) → To (at + r) ≡ fieldsStep (now (plate .entry)) at) ⌝ }
 {
     let start = short_field(window_in(plate, at));
     if start == 0 {
@@ -334,8 +334,8 @@ fn short_fields(plate: &[u8], at: usize) -> usize
 
 // The bits of the three fields of a plain rule: most have one alternative each, and stand in one window.
 pub(crate) fn plain_fields(plate: &[u8], at: usize) -> usize
-    requires { ⌜ (at ≤ farthest 1) × (at / 8 + 20 ≤ length (now plate)) ⌝ }
-    ensures { λ r. ⌜ (r ≤ 144) × ((r ≡ 0 → ⊥) → To (at + r) ≡ fieldsStep (now (plate .entry)) at) ⌝ }
+    requires { ⌜ (at ≤ farthest 1) × (at / 8 + 15 ≤ length (now plate)) ⌝ }
+    ensures { λ r. ⌜ (r ≤ 78) × ((r ≡ 0 → ⊥) → To (at + r) ≡ fieldsStep (now (plate .entry)) at) ⌝ }
 {
     let bits = quick_fields(window_in(plate, at));
     if 0 < bits {

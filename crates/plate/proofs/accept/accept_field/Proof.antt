@@ -52,7 +52,7 @@ returns c =
     let w = seen .window in
     let b = read .short-field in
     let few = b .ensures .0 in
-    (b .ensures .1 (λ e. omega arith) s (a .at) (front s (a .at) 57 (w .result) (w .ensures) (omega arith) 48 (omega arith)), omega arith)
+    (b .ensures .1 (λ e. omega arith) s (a .at) (front s (a .at) 57 (w .result) (w .ensures) (omega arith) 26 (omega arith)), omega arith)
 
 part-requires : tie.Need-part-requires Inv-loop μ-loop
 part-requires c κs = (omega arith, omega arith, omega arith)

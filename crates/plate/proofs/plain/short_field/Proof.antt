@@ -26,7 +26,7 @@ returns-2 c =
     let small = only .ensures .0 in (
       omega (arith, small),
       λ some s at held.
-          single w (only .result) (one .if1 .taken) (only .ensures .1) (c .if2 .left) some s at (front s at 48 w held (omega arith) 15 (omega arith)),
+          single w (only .result) (one .if1 .taken) (only .ensures .1) (c .if2 .left) some s at (front s at 26 w held (omega arith) 15 (omega arith)),
     )
 
 short-alternative-requires-2 : tie.Need-short-alternative-requires-2
@@ -66,7 +66,7 @@ returns-5 c =
     let second = read-2 .short-alternative3 in
     let small = first .ensures .0 in
     let small-2 = second .ensures .0 in
-    let within : 4 + first .result ≤ 37 = omega (arith, small) in
+    let within : 4 + first .result ≤ 15 = omega (arith, small) in
     let one-left = left-turn w 2 4 2 (first .result) (left-all w 2) (omega arith) (omega arith) (first .ensures .1) (some .if4 .left) in
     let none-left = left-turn w 2 (4 + first .result) 1 (second .result) one-left (omega arith) within (second .ensures .1) (c .if5 .left) in
     (omega (arith, small, small-2), left-none w 2 (4 + first .result + second .result) 0 none-left (omega arith) (sym (two .if3 .taken)) (omega arith) (omega arith))

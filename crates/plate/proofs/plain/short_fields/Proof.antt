@@ -71,9 +71,9 @@ returns-4 c =
       omega arith,
       λ _.
           three-fields s (a .at) (x .result) (y .result) (z .result)
-          (x .ensures .1 (second .before .before .if1 .left) s (a .at) (front s (a .at) 57 (u .result) (u .ensures) (omega arith) 48 (omega arith)))
-          (y .ensures .1 (third .before .before .if2 .left) s vowel (front s vowel 57 (v .result) (v .ensures) (omega arith) 48 (omega arith)))
-          (z .ensures .1 (c .if3 .left) s other (front s other 57 (w .result) (w .ensures) (omega arith) 48 (omega arith))),
+          (x .ensures .1 (second .before .before .if1 .left) s (a .at) (front s (a .at) 57 (u .result) (u .ensures) (omega arith) 26 (omega arith)))
+          (y .ensures .1 (third .before .before .if2 .left) s vowel (front s vowel 57 (v .result) (v .ensures) (omega arith) 26 (omega arith)))
+          (z .ensures .1 (c .if3 .left) s other (front s other 57 (w .result) (w .ensures) (omega arith) 26 (omega arith))),
     )
 
 pub short-fields-spec : {M : Type 1} → statement M
