@@ -12,7 +12,8 @@ use lib.ListN.{length, take, drop, getD, set, length-append, length-drop, length
 use lib.Seq.{take-append-seam, take-suc, take-set-le, getD-set-same}
 use Rattle.plate.specs.Plate.{Folding, Rule, firstCode, mostBytes, mayPrecede}
 use Rattle.book.specs.Book.{foldingOf, putRule, putFolding}
-use Rattle.book.specs.Sort.{insert, paired, putPair, foldingIn, Small, AllSmall}
+use Rattle.laws.specs.Sort.{insert}
+use Rattle.book.specs.Sort.{paired, putPair, foldingIn, Small, AllSmall}
 use Rattle.book.specs.Seen.{hashes, hashOf}
 use Rattle.book.specs.Note.{places, lengths, key, placeIn, hashIn, rulesIn, Sure, AllSure}
 use Rattle.book.proofs.Faults.{clean}

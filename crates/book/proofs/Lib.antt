@@ -4,8 +4,6 @@ pub mod Fields
 pub mod Runs
 pub mod Inks
 pub mod Sorted
-pub mod Counts
-pub mod Splits
 pub mod Orders
 pub mod Hashes
 pub mod Keys

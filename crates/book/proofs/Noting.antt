@@ -13,7 +13,8 @@ use Rattle.plate.specs.Written.{ruleBits}
 use Rattle.plate.specs.Plate.{mostFoldings}
 use Rattle.plate.specs.Most.{ruleMost, mostRules}
 use Rattle.book.specs.Book.{Book, foldingOf, putRule, putFolding, withRule, withFolding, when, ruleFault, foldingFault}
-use Rattle.book.specs.Sort.{sorted, putPair, foldingIn, AllSmall, PairsHeld, PutIs}
+use Rattle.laws.specs.Sort.{sorted}
+use Rattle.book.specs.Sort.{putPair, foldingIn, AllSmall, PairsHeld, PutIs}
 use Rattle.book.specs.Seen.{hashOf, slots, mayHold, marked}
 use Rattle.book.specs.Note.{places, key, keyOf, placeIn, hashIn, rulesIn, rulesOf, Sure, AllSure, AllMarked, bookOf, KeysHeld, Kept, InOrder, noneNoted}
 use Rattle.book.specs.Note.{flawNumber, ruled, passed, folded, RuleIs, RuleIn, DoubleNoted, FoldingNoted}
@@ -27,7 +28,8 @@ use Rattle.book.specs.declared.note.Judged.the-variants as Judged
 use Rattle.book.proofs.Faults.{clean}
 use Rattle.book.proofs.Measures.{put-bits}
 use Rattle.book.proofs.Sorted.{put-rising}
-use Rattle.book.proofs.Counts.{each-append, each-sorted, length-sorted, sorted-twice, sorted-snoc}
+use Rattle.laws.proofs.Holds.{each-append}
+use Rattle.laws.proofs.Sorting.{each-sorted, length-sorted, sorted-twice, sorted-snoc}
 use Rattle.book.proofs.Hashes.{hash-small, still-long, met-new, all-still}
 use Rattle.book.proofs.Keys.{key-place, key-hash, all-later, put-view, first-keys, put-small, put-folding-view, first-pairs, pairs-length}
 

@@ -14,7 +14,7 @@ use Rattle.plate.specs.Plate.{Rule}
 use Rattle.book.specs.Field.{parsed, Says}
 use Rattle.book.specs.Pen.{begin, bitsIn, Finished}
 use Rattle.book.specs.Seen.{hashes, hashOf, mayHold}
-use Rattle.book.specs.Sort.{sorted}
+use Rattle.laws.specs.Sort.{sorted}
 use Rattle.book.specs.Note.{flawNumber, RuleNoted, DoubleNoted, FoldingNoted}
 use Rattle.book.specs.declared.Alternatives.{Alternatives}
 use Rattle.book.specs.declared.Flaw.{Flaw}

@@ -12,7 +12,8 @@ use Rattle.plate.specs.Most.{fieldMost, ruleMost, mostRules}
 use Rattle.plate.specs.Written.{fieldBits, ruleBits}
 use Rattle.book.specs.Book.{Book, fieldFault, ruleFault}
 use Rattle.book.specs.Seen.{hashes, slots, hashOf, mayHold, marked}
-use Rattle.book.specs.Sort.{sorted, putPair, foldingIn, PairsHeld}
+use Rattle.laws.specs.Sort.{sorted}
+use Rattle.book.specs.Sort.{putPair, foldingIn, PairsHeld}
 use Rattle.book.specs.declared.Flaw.{Flaw}
 use Rattle.book.specs.declared.Flaw.the-variants.{EmptyPattern, LongPattern, ManyAlternatives, NotDigits, TooMany}
 use Rattle.book.specs.declared.Tally.{Tally}

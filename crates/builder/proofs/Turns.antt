@@ -18,13 +18,13 @@ use Rattle.rule_text.specs.declared.Entry.the-variants as E
 use Rattle.rule_text.proofs.Walk as Walk
 use Rattle.plate.specs.Plate.{Rule, ofPattern}
 use Rattle.book.specs.Book.{Book}
-use Rattle.book.specs.Sort.{sorted}
+use Rattle.laws.specs.Sort.{sorted}
 use Rattle.book.specs.Note.{places, placeIn, rulesIn, bookOf, Kept, noneNoted, FoldingNoted}
 use Rattle.book.specs.declared.Tally.{Tally}
 use Rattle.book.specs.declared.Noted.{Noted}
 use Rattle.book.specs.declared.Noted.the-variants as Noted
 use Rattle.book.proofs.Ways as Ways
-use Rattle.book.proofs.Counts.{some-sorted}
+use Rattle.laws.proofs.Sorting.{some-sorted}
 use Rattle.book.proofs.Noting.{none-kept, kept-later, double-kept, double-noted, rule-kept, rule-noted, rule-met, folding-fault, folding-fine, folding-kept, folding-noted}
 use Rattle.book.proofs.Noting.{order-kept, order-made, order-noted}
 use Rattle.builder.specs.Build.{fault, enter, Verdict, unless, verdict}

@@ -12,3 +12,11 @@ pub mod Arrays
 pub mod Same
 pub mod Members
 pub mod Once
+pub mod Holds
+pub mod Alike
+pub mod Sorting
+pub mod Rising
+pub mod Positions
+pub mod Parting
+pub mod BitOrder
+pub mod Lending

@@ -1,3 +1,4 @@
 pub mod Lists
 pub mod Arrays
 pub mod Once
+pub mod Sort
