@@ -5,15 +5,16 @@ use mathlib.Core.List.{List, [], _∷_}
 use Prim.Native.Nat.{ℕ, zero, suc, _+_, _-_, _<_, _≤_, _/_, _%_}
 use native.Mathlib.Nat.{zero-add, add-zero, suc-add, add-assoc}
 use native.Mathlib.Omega.{arith}
-use native.Mathlib.Numerals.{sub-one}
-use borrow.Author.Tests.{eq-eqb, ne-eqb, leb-false}
+use native.Mathlib.Numerals.{add-one, sub-one}
+use borrow.Author.Tests.{eq-eqb, ne-eqb, le-leb, leb-false}
 use lib.Dec.{eqb, leb}
-use lib.ListN.{length, take, drop, take-append-drop}
-use lib.Seq.{drop-drop}
-use Rattle.laws.specs.Lists.{some}
-use Rattle.laws.proofs.Tests.{by-test, or-false, or-assoc}
+use lib.ListN.{length, take, drop, getD, take-append-drop}
+use lib.Seq.{drop-cons, drop-drop}
+use Rattle.laws.specs.Lists.{between, some}
+use Rattle.laws.proofs.Tests.{by-test, between-true, or-false, or-assoc}
 use Rattle.laws.proofs.Lists.{some-append}
-use Rattle.chars.specs.Utf8.{bytesOf, charOf, isText, textFrom, soundFrom, badPlace}
+use Rattle.laws.proofs.Parts.{within}
+use Rattle.chars.specs.Utf8.{bytesOf, two, three, four, charOf, isText, textFrom, soundFrom, badPlace}
 use Rattle.chars.specs.Answers.{isZero, checked}
 use Rattle.chars.specs.declared.Char.{Char}
 use Rattle.chars.specs.declared.Char.the-variants.{One, Bad, End}
@@ -98,6 +99,31 @@ end : (at : ℕ) (holds : Bool) (s : List ℕ) → charOf s ≡ End → Text hol
 unfolding textFrom
 end at holds [] e = ap Text (sym (or-false holds))
 end at holds (x ∷ xs) e = absurd (omega (arith, subst (Decoded (x ∷ xs)) e (decoded-any (x ∷ xs))))
+
+-- ---- an ASCII byte that is not zero, at a place: it passes
+
+module _ (s : List ℕ) (at : ℕ) (r : Bool) (b : ℕ) (e : b ≡ getD s at 0) (f : r ≡ between 1 0x7F b) (t : r ≡ true) where
+  plain-between : (1 ≤ getD s at 0) × (getD s at 0 ≤ 0x7F)
+  plain-between = between-true 1 0x7F (getD s at 0) (ap (between 1 0x7F) (sym e) ∙ sym f ∙ t)
+
+  pub plain-inside : at < length s
+  plain-inside = within s at (getD s at 0) (plain-between .0) refl
+
+  pub turn-plain : (holds : Bool) → checkedFrom (at + 1) holds (drop (at + 1) s) ≡ checkedFrom at holds (drop at s)
+  turn-plain holds =
+      let x : ℕ = getD s at 0 in
+      let some = plain-between in
+      let rest : List ℕ = drop (suc at) s in
+      let here : drop at s ≡ x ∷ rest = drop-cons s at 0 plain-inside in
+      let one : charOf (x ∷ rest) ≡ One x 1 = ap (λ (u : Bool). cond u (One x 1) (wide x rest)) (le-leb x 0x7F (some .1)) in
+      let flag : holds || isZero x ≡ holds = ap (λ (u : Bool). holds || u) (ne-eqb x 0 (λ z. omega arith)) ∙ or-false holds in
+      ap (λ (k : ℕ). checkedFrom (at + 1) holds (drop k s)) (add-one at)
+      ∙ ap (λ (h : Bool). checkedFrom (at + 1) h rest) (sym flag)
+      ∙ passed at holds (x ∷ rest) x 1 one (omega arith) (omega arith)
+      ∙ ap (checkedFrom at holds) (sym here)
+    where
+      wide : ℕ → List ℕ → Char
+      wide x l = cond (between 0xC0 0xDF x) (two x l) (cond (between 0xE0 0xEF x) (three x l) (cond (between 0xF0 0xF7 x) (four x l) Bad))
 
 -- ---- one turn, and the two ways out
 

@@ -132,13 +132,17 @@ pub fn char_at(s: &[u8], at: usize) -> Char
     first_char(&s[at..])
 }
 
-// In one pass: is it UTF-8, and does it hold a zero byte?
+// In one pass: is it UTF-8, and does it hold a zero byte? Most bytes are ASCII and not zero, and pass by themselves.
 pub fn check_text(s: &[u8]) -> Checked
     ensures { λ r. ⌜ r ≡ checked (now (s .entry)) ⌝ }
 {
     let mut at: usize = 0;
     let mut holds = false;
     loop {
+        if is_between(1, 0x7F, byte(s, at)) {
+            at += 1;
+            continue;
+        }
         match char_at(s, at) {
             Char::One(c, w) => {
                 at += w;
