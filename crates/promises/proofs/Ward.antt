@@ -23,7 +23,7 @@ use Rattle.ward.specs.Ward.{Written, unwritten, written, newline, names, listBy
 use Rattle.ward.proofs.Names.{names-closed, names-last, no-names}
 use Rattle.ward.proofs.Lines.{any-buffer, given-fits}
 use Rattle.zengilvar.specs.Numbers.{coded}
-use Rattle.zengilvar.specs.Ward as call
+use Rattle.zengilvar.specs.Ward.{wrote}
 use Rattle.zengilvar.specs.declared.DmCoded.{DmCoded}
 use Rattle.zengilvar.specs.declared.DmWritten.{DmWritten}
 use Rattle.promises.specs.When.{NotAPlate}
@@ -236,22 +236,22 @@ given-is plate name other e = any-buffer plate name (replicate listBytes 0) othe
 
 -- ---- the same of the calls
 
-module _ (plate buffer lent : List ℕ) (bytes : Bytes plate) (r : DmWritten) (out : List ℕ) (t : call.written r out ≡ wardAnswer plate buffer lent) where
-  pub wards : WardRefuses plate buffer lent (call.written r out) × WardGives plate buffer lent (call.written r out)
+module _ (plate buffer lent : List ℕ) (bytes : Bytes plate) (r : DmWritten) (out : List ℕ) (t : wrote r out ≡ wardAnswer plate buffer lent) where
+  pub wards : WardRefuses plate buffer lent (wrote r out) × WardGives plate buffer lent (wrote r out)
   wards =
       subst (λ (a : Written). WardRefuses plate buffer lent a × WardGives plate buffer lent a) (sym t) (refuses plate buffer lent bytes, ward-gives plate buffer lent bytes)
 
-  line-told : call.written r out .number ≡ 0 → (k : ℕ) → k < length (names buffer) → getD (linesOf (call.written r out)) k [] ≡ given plate (getD (names buffer) k [])
+  line-told : wrote r out .number ≡ 0 → (k : ℕ) → k < length (names buffer) → getD (linesOf (wrote r out)) k [] ≡ given plate (getD (names buffer) k [])
   line-told e k h =
       ap (λ (a : Written). getD (linesOf a) k []) t ∙ line-at plate buffer lent bytes (ap (λ (a : Written). a .number) (sym t) ∙ e) k h
 
   pub ward-lists : (name other : List ℕ) (r′ : DmCoded) (out′ : List ℕ) → coded r′ out′ ≡ listAnswer plate name other
-      → WardLists buffer (call.written r out) name other (coded r′ out′)
+      → WardLists buffer (wrote r out) name other (coded r′ out′)
   ward-lists name other r′ out′ u e long k h is =
       line-told e k h ∙ ap (given plate) is ∙ given-is plate name other long ∙ ap lineOf (sym u)
 
-pub wards-alike : (plate buffer lent : List ℕ) → Bytes plate → (r : DmWritten) (out : List ℕ) → call.written r out ≡ wardAnswer plate buffer lent
-    → (buffer′ lent′ : List ℕ) (r′ : DmWritten) (out′ : List ℕ) → call.written r′ out′ ≡ wardAnswer plate buffer′ lent′
-    → WardAlike buffer (call.written r out) buffer′ (call.written r′ out′)
+pub wards-alike : (plate buffer lent : List ℕ) → Bytes plate → (r : DmWritten) (out : List ℕ) → wrote r out ≡ wardAnswer plate buffer lent
+    → (buffer′ lent′ : List ℕ) (r′ : DmWritten) (out′ : List ℕ) → wrote r′ out′ ≡ wardAnswer plate buffer′ lent′
+    → WardAlike buffer (wrote r out) buffer′ (wrote r′ out′)
 wards-alike plate buffer lent bytes r out t buffer′ lent′ r′ out′ u e f j k h i same =
     line-told plate buffer lent bytes r out t e j h ∙ ap (given plate) same ∙ sym (line-told plate buffer′ lent′ bytes r′ out′ u f k i)

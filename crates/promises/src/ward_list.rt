@@ -1,6 +1,6 @@
 // M-103, promised of the library's calls: a ward list, beside a list of one of its names and beside another ward list. specs/Ward.antt says each.
 ghost use Rattle.zengilvar.specs.Numbers.{coded};
-ghost use Rattle.zengilvar.specs.Ward.{written};
+ghost use Rattle.zengilvar.specs.Ward.{wrote};
 ghost use Rattle.promises.specs.Ward.{WardRefuses, WardGives, WardLists, WardAlike};
 use zengilvar::DmCoded;
 use zengilvar::DmWritten;
@@ -9,8 +9,8 @@ use zengilvar::ward_list::dm_ward;
 
 // Numbers and lines.
 fn wards(plate: &[u8], names: &[u8], out: &mut [u8]) -> DmWritten
-    ensures { λ r. ⌜ WardRefuses (now (plate .entry)) (now (names .entry)) (now (out .entry)) (written r (now (out .exit))) ⌝ }
-    ensures { λ r. ⌜ WardGives (now (plate .entry)) (now (names .entry)) (now (out .entry)) (written r (now (out .exit))) ⌝ }
+    ensures { λ r. ⌜ WardRefuses (now (plate .entry)) (now (names .entry)) (now (out .entry)) (wrote r (now (out .exit))) ⌝ }
+    ensures { λ r. ⌜ WardGives (now (plate .entry)) (now (names .entry)) (now (out .entry)) (wrote r (now (out .exit))) ⌝ }
 {
     dm_ward(plate, names, out)
 }
@@ -29,7 +29,7 @@ fn wards_as_lists(
     name: &[u8],
     other: &mut [u8],
 ) -> WardAndList
-    ensures { λ r. ⌜ WardLists (now (names .entry)) (written (r .ward) (now (out .exit))) (now (name .entry)) (now (other .entry)) (coded (r .list) (now (other .exit))) ⌝ }
+    ensures { λ r. ⌜ WardLists (now (names .entry)) (wrote (r .ward) (now (out .exit))) (now (name .entry)) (now (other .entry)) (coded (r .list) (now (other .exit))) ⌝ }
 {
     let ward = dm_ward(plate, names, out);
     let list = dm_list(plate, name, other);
@@ -53,7 +53,7 @@ fn wards_alike(
     others: &[u8],
     more: &mut [u8],
 ) -> TwoWards
-    ensures { λ r. ⌜ WardAlike (now (names .entry)) (written (r .first) (now (out .exit))) (now (others .entry)) (written (r .second) (now (more .exit))) ⌝ }
+    ensures { λ r. ⌜ WardAlike (now (names .entry)) (wrote (r .first) (now (out .exit))) (now (others .entry)) (wrote (r .second) (now (more .exit))) ⌝ }
 {
     let first = dm_ward(plate, names, out);
     let second = dm_ward(plate, others, more);

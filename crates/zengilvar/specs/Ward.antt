@@ -5,5 +5,5 @@ use mathlib.Core.List.{List}
 use Rattle.ward.specs.Ward.{Written}
 use Rattle.zengilvar.specs.declared.DmWritten.{DmWritten}
 
-abbrev pub written : DmWritten → List ℕ → Written
-written r out = record { number = r .number; length = r .length; buffer = out }
+abbrev pub wrote : DmWritten → List ℕ → Written
+wrote r out = record { number = r .number; length = r .length; buffer = out }

@@ -4,15 +4,15 @@ use mathlib.Core.Path.{_≡_, refl, sym, ap, _∙_}
 use mathlib.Core.List.{List}
 use Rattle.ward.specs.Outcome.{told}
 use Rattle.ward.specs.declared.Warded.{Warded}
-use Rattle.zengilvar.specs.Ward.{written}
+use Rattle.zengilvar.specs.Ward.{wrote}
 use Rattle.zengilvar.specs.declared.DmWritten.{DmWritten}
 use borrow.Author.Needs.{needs}
 use Rattle.zengilvar.proofs.ward_list.written_numbers.Statement.{statement}
 use Rattle.zengilvar.proofs.ward_list.written_numbers.Tie as tie
 
 -- A refusal's numbers.
-refused : (r wanted : DmWritten) (a b : Warded) → r ≡ wanted → a ≡ b → (out : List ℕ) → written wanted out ≡ told b out → written r out ≡ told a out
-refused r wanted a b e f out g = ap (λ (x : DmWritten). written x out) e ∙ g ∙ ap (λ (x : Warded). told x out) (sym f)
+refused : (r wanted : DmWritten) (a b : Warded) → r ≡ wanted → a ≡ b → (out : List ℕ) → wrote wanted out ≡ told b out → wrote r out ≡ told a out
+refused r wanted a b e f out g = ap (λ (x : DmWritten). wrote x out) e ∙ g ∙ ap (λ (x : Warded). told x out) (sym f)
 
 enum-known-w : tie.Need-enum-known-w
 enum-known-w c = search needs
