@@ -1,18 +1,18 @@
 -- The characters of a name, from a place on: each is dropped or kept, and the end, a bad sequence or one that is not allowed decides. Assumes nothing.
-use Prim.Native.Nat.{ℕ, _+_, _-_, _≤_, _<_}
-use mathlib.Core.Path.{_≡_, refl, sym, ap, ap₂, _∙_}
+use Prim.Native.Nat.{ℕ, zero, suc, _+_, _-_, _≤_, _<_}
+use mathlib.Core.Path.{_≡_, refl, sym, ap, subst, _∙_}
 use mathlib.Core.Bool.{Bool, true, false, cond, _&&_, _||_}
 use mathlib.Core.List.{List, [], _∷_, _++_, append-assoc, append-nil}
 use native.Mathlib.Nat.{zero-add, add-zero, add-assoc}
+use native.Mathlib.Numerals.{add-one}
 use native.Mathlib.Omega.{arith}
-use borrow.Author.Tests.{lt-ltb, le-ltb}
-use lib.ListN.{length, take, drop, set, replicate, length-append, length-replicate, length-drop, drop-of-length-le}
-use lib.Seq.{drop-drop, take-at}
+use borrow.Author.Tests.{lt-ltb, le-ltb, le-leb}
+use lib.ListN.{length, take, drop, getD, set, length-drop, drop-of-length-le}
+use lib.Seq.{drop-drop, drop-cons, take-suc-set}
 use Rattle.laws.specs.Lists.{every}
-use Rattle.laws.proofs.Many.{store}
 use Rattle.laws.proofs.Lists.{rest}
 use Rattle.chars.specs.Utf8.{charOf, isText, textFrom, charsFrom, charsOf, badPlace, failPlace}
-use Rattle.chars.specs.Letters.{white, tabled, allowed, lowerOf}
+use Rattle.chars.specs.Letters.{white, cyrillic, tabled, allowed, lowerOf}
 use Rattle.chars.specs.declared.Char.{Char}
 use Rattle.chars.specs.declared.Char.the-variants.{One, Bad}
 use Rattle.chars.specs.Answers.{checked}
@@ -23,14 +23,36 @@ use Rattle.chars.proofs.Exact.{decoded-one}
 use Rattle.chars.proofs.Checks.{Says, says, sound-front}
 use Rattle.chars.proofs.Faults.{sound-within, bad-here, fail-here, fail-behind}
 use Rattle.plate.specs.Plate.{Plate}
-use Rattle.plate.specs.Read.{foldBy}
+use Rattle.plate.specs.Bits.{numberAt}
+use Rattle.plate.specs.Read.{foldBy, foldingCount, countWidth, plateIn, accepted}
+use Rattle.plate.specs.Stands.{firstKey}
+use Rattle.plate.proofs.Facts.{keys-rise}
+use Rattle.plate.proofs.Parts.{fold-below, fold-end}
+use Rattle.plate.proofs.Whole.{key-first}
 use Rattle.coder.specs.Name.{coded, prepared, Named, mostName, named}
 use Rattle.coder.specs.Name.Named.{Refused, Chars}
-use Rattle.coder.specs.Held.{namedBy, foreignFault}
+use Rattle.coder.specs.Held.{namedBy, foreignFault, PlainAt}
 use Rattle.coder.specs.declared.NameFault.{NameFault}
 use Rattle.coder.specs.declared.NameFault.the-variants as fault
 
 -- ---- one character
+
+-- Below the first key nothing is folded.
+below-key : (s : List ℕ) → accepted s ≡ true → (c : ℕ) → c < firstKey (plateIn s .foldings) → foldBy (plateIn s .foldings) c ≡ c
+below-key s a c h = go (foldingCount (countWidth s) s) refl
+  where
+    go : (n : ℕ) → foldingCount (countWidth s) s ≡ n → foldBy (plateIn s .foldings) c ≡ c
+    go zero e = sym (fold-end s c 32 (foldingCount (countWidth s) s) (omega arith))
+    go (suc n) e =
+        let n = foldingCount (countWidth s) s in
+        sym (fold-below s c 32 n (omega arith) (numberAt s 32 21) refl (keys-rise s a) (subst (λ (k : ℕ). c < k) (sym (key-first s n n refl (omega arith) (numberAt s 32 21) refl)) h))
+
+pub left-as : (s : List ℕ) → accepted s ≡ true → (c : ℕ) → lowerOf c < firstKey (plateIn s .foldings) → coded (plateIn s) c ≡ lowerOf c
+left-as s a c h = go (plateIn s .flag)
+  where
+    go : (t : Bool) → cond t (foldBy (plateIn s .foldings) (lowerOf c)) (lowerOf c) ≡ lowerOf c
+    go true = below-key s a (lowerOf c) h
+    go false = refl
 
 module _ (p : Plate) (c : ℕ) where
   pub folded : p .flag ≡ true → coded p c ≡ foldBy (p .foldings) (lowerOf c)
@@ -38,6 +60,19 @@ module _ (p : Plate) (c : ℕ) where
 
   pub unfolded : p .flag ≡ false → coded p c ≡ lowerOf c
   unfolded h = ap (λ (t : Bool). cond t (foldBy (p .foldings) (lowerOf c)) (lowerOf c)) h
+
+ascii-char : (b : ℕ) (l : List ℕ) → b ≤ 0x7F → charOf (b ∷ l) ≡ One b 1
+ascii-char b l h = rw (le-leb b 0x7F h)
+
+-- An ASCII character that is not white space is kept.
+pub plain-here : (name : List ℕ) (at : ℕ) → at < length name → getD name at 0 < 128 → white (getD name at 0) ≡ false → PlainAt name at (getD name at 0)
+plain-here name at h small inked =
+    record {
+      within = h;
+      here = ap charOf (drop-cons name at 0 h) ∙ ascii-char (getD name at 0) (drop (suc at) name) (omega arith);
+      inked = inked;
+      allowed = ap (λ (t : Bool). t || cyrillic (getD name at 0)) (lt-ltb (getD name at 0) 0x180 (omega arith));
+    }
 
 -- ---- the rest of a name
 
@@ -77,20 +112,17 @@ unfolding textFrom
 text-bad [] e = absurd (omega (arith, ap kind e))
 text-bad (x ∷ xs) e = rw e
 
--- What stands in the array `chars` at a place of the name, and that what is wanted from there is what is wanted of the whole name.
-pub record Made (p : Plate) (name chars : List ℕ) (count at : ℕ) : Type 0 where
-  pub made : List ℕ
-  pub long : length made ≡ count
-  pub is : chars ≡ made ++ replicate (mostName - count) 0
-  pub left : ending p made at (drop at name) ≡ named p name
+-- The first of `chars` are those made up to a place of the name: what is wanted from there is what is wanted of the whole name.
+abbrev pub Made : Plate → List ℕ → List ℕ → ℕ → ℕ → Type 0
+Made p name chars count at = ending p (take count chars) at (drop at name) ≡ named p name
 
 module _ (p : Plate) (name : List ℕ) where
   pub too-long : mostName < length name → Refused 1 0 ≡ named p name
   too-long h = rw (lt-ltb mostName (length name) h)
 
-  pub start : length name ≤ mostName → Made p name (replicate mostName 0) 0 0
+  pub start : length name ≤ mostName → (chars : List ℕ) → Made p name chars 0 0
   unfolding ending
-  start h = record { made = []; long = refl; is = refl; left = whole ∙ ap (λ (t : Bool). cond t (Refused 1 0) all) (sym (le-ltb mostName (length name) h)) }
+  start h chars = whole ∙ ap (λ (t : Bool). cond t (Refused 1 0) all) (sym (le-ltb mostName (length name) h))
     where
       all : Named
       all = cond (isText name) (cond (every allowed (charsOf name)) (Chars (prepared p name)) (Refused 11 (failPlace allowed name))) (Refused 2 (badPlace name))
@@ -101,18 +133,13 @@ module _ (p : Plate) (name : List ℕ) where
           (Refused 2 (zero-add (badPlace name) i))
 
   module _ (chars : List ℕ) (count at : ℕ) (m : Made p name chars count at) where
-    -- The array keeps its length.
-    pub whole : count ≤ mostName → length chars ≡ mostName
-    whole h =
-        ap length (m .is) ∙ length-append (m .made) (replicate (mostName - count) 0) ∙ ap₂ _+_ (m .long) (length-replicate (mostName - count) 0) ∙ omega arith
-
     module _ (r : Char) (e : r ≡ charOf (drop at name)) where
       pub bad : r ≡ Bad → Refused 2 at ≡ named p name
       unfolding ending
       bad f =
           let g = sym e ∙ f in
           ap (Refused 2) (sym (add-zero at) ∙ ap (λ (n : ℕ). at + n) (sym (bad-here (drop at name) g)))
-          ∙ ap (λ (t : Bool). cond t (text p (m .made) at (drop at name)) (Refused 2 (at + badPlace (drop at name)))) (sym (text-bad (drop at name) g)) ∙ m .left
+          ∙ ap (λ (t : Bool). cond t (text p (take count chars) at (drop at name)) (Refused 2 (at + badPlace (drop at name)))) (sym (text-bad (drop at name) g)) ∙ m
 
       module _ (c w : ℕ) (f : r ≡ One c w) (g : 1 ≤ w) where
         abbrev here : List ℕ
@@ -134,10 +161,10 @@ module _ (p : Plate) (name : List ℕ) where
         by-first = ap (every allowed) characters
 
         -- A character that is allowed is passed by.
-        passed : allowed c ≡ true → (made : List ℕ) → made ++ prepared p behind ≡ m .made ++ prepared p here → ending p made (at + w) behind ≡ named p name
+        passed : allowed c ≡ true → (made : List ℕ) → made ++ prepared p behind ≡ take count chars ++ prepared p here → ending p made (at + w) behind ≡ named p name
         unfolding ending
         passed h made same =
-            (λ i. cond (sym texts i) (cond (fine i) (Chars (same i)) (Refused 11 (foreign i))) (Refused 2 (broken i))) ∙ m .left
+            (λ i. cond (sym texts i) (cond (fine i) (Chars (same i)) (Refused 11 (foreign i))) (Refused 2 (broken i))) ∙ m
           where
             fine : every allowed (charsOf behind) ≡ every allowed (charsOf here)
             fine = sym (by-first ∙ ap (λ (t : Bool). t && every allowed (charsOf behind)) h)
@@ -154,30 +181,19 @@ module _ (p : Plate) (name : List ℕ) where
 
         -- White space is dropped.
         pub space : white c ≡ true → Made p name chars count (at + w)
-        space h =
-            record {
-              made = m .made;
-              long = m .long;
-              is = m .is;
-              left = passed (ap (λ (t : Bool). t || tabled c) h) (m .made) (sym (rw (characters, h) refl));
-            }
+        space h = passed (ap (λ (t : Bool). t || tabled c) h) (take count chars) (sym (rw (characters, h) refl))
 
         -- Any other character that is allowed is kept.
-        pub kept : white c ≡ false → tabled c ≡ true → count < mostName → (v : ℕ) → v ≡ coded p c → Made p name (set chars count v) (count + 1) (at + w)
+        pub kept : white c ≡ false → tabled c ≡ true → count < length chars → (v : ℕ) → v ≡ coded p c → Made p name (set chars count v) (count + 1) (at + w)
         kept h k b v i =
-            record {
-              made = m .made ++ (v ∷ []);
-              long = length-append (m .made) (v ∷ []) ∙ ap (λ (n : ℕ). n + 1) (m .long);
-              is = store mostName count (m .made) chars 0 v b (m .long) (m .is);
-              left =
-                  passed (ap (λ (t : Bool). t || tabled c) h ∙ k) (m .made ++ (v ∷ []))
-                  (append-assoc (m .made) (v ∷ []) (prepared p behind) ∙ sym (rw (characters, h) (ap (λ (x : ℕ). m .made ++ (x ∷ prepared p behind)) (sym i))));
-            }
+            ap (λ (made : List ℕ). ending p made (at + w) behind) (ap (λ (n : ℕ). take n (set chars count v)) (add-one count) ∙ take-suc-set chars count v b)
+            ∙ passed (ap (λ (t : Bool). t || tabled c) h ∙ k) (take count chars ++ (v ∷ []))
+            (append-assoc (take count chars) (v ∷ []) (prepared p behind) ∙ sym (rw (characters, h) (ap (λ (x : ℕ). take count chars ++ (x ∷ prepared p behind)) (sym i))))
 
         -- One that is not allowed is the fault, or a bad sequence behind it.
         pub strange : white c ≡ false → tabled c ≡ false → (x : NameFault) → x ≡ foreignFault at here → namedBy x [] ≡ named p name
         unfolding ending
-        strange h k x same = ap (λ (y : NameFault). namedBy y []) same ∙ go (isText here) ∙ m .left
+        strange h k x same = ap (λ (y : NameFault). namedBy y []) same ∙ go (isText here) ∙ m
           where
             fails : allowed c ≡ false
             fails = ap (λ (t : Bool). t || tabled c) h ∙ k
@@ -189,12 +205,10 @@ module _ (p : Plate) (name : List ℕ) where
             place = sym (add-zero at) ∙ ap (λ (n : ℕ). at + n) (sym (fail-here allowed here c w one g fails))
 
             go : (t : Bool) → namedBy (cond t (fault.NotAllowed at) (fault.NotUtf8 (at + badPlace here))) []
-                ≡ cond t (text p (m .made) at here) (Refused 2 (at + badPlace here))
-            go true = ap (Refused 11) place ∙ ap (λ (t : Bool). cond t (Chars (m .made ++ prepared p here)) (Refused 11 (at + failPlace allowed here))) (sym found)
+                ≡ cond t (text p (take count chars) at here) (Refused 2 (at + badPlace here))
+            go true = ap (Refused 11) place ∙ ap (λ (t : Bool). cond t (Chars (take count chars ++ prepared p here)) (Refused 11 (at + failPlace allowed here))) (sym found)
             go false = refl
 
     pub end : length name ≤ at → Chars (take count chars) ≡ named p name
     unfolding ending textFrom charsFrom
-    end h =
-        ap Chars (ap (take count) (m .is) ∙ take-at (m .made) (replicate (mostName - count) 0) count (m .long))
-        ∙ rw (drop-of-length-le name h, append-nil) at (m .left)
+    end h = rw (drop-of-length-le name h, append-nil) at m

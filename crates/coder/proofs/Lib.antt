@@ -2,6 +2,7 @@ pub mod Longest
 pub mod Hits
 pub mod Groups
 pub mod Patterns
+pub mod Compared
 pub mod Chars
 pub mod Alternatives
 pub mod Fields

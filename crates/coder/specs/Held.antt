@@ -1,15 +1,17 @@
 -- What the code of this crate holds and answers, in the words of the definitions: a name prepared, what the search finds, the next use, all branches.
 -- Assumes nothing.
-use Prim.Native.Nat.{ℕ, _+_, _<_, _≤_}
+use Prim.Native.Nat.{ℕ, zero, suc, _+_, _-_, _*_, _/_, _^_, _<_, _≤_}
 use mathlib.Core.Path.{_≡_}
 use mathlib.Core.Bool.{Bool, true, false, cond}
 use mathlib.Core.Option.{Option, none, some}
 use mathlib.Core.List.{List, [], _∷_, map}
 use lib.ListN.{length, take, drop}
-use Rattle.chars.specs.Utf8.{isText, badPlace}
+use Rattle.chars.specs.Utf8.{charOf, isText, badPlace}
+use Rattle.chars.specs.Letters.{white, tabled}
+use Rattle.chars.specs.declared.Char.the-variants.{One}
 use Rattle.plate.specs.Plate.{Rule, Plate}
 use Rattle.plate.specs.Read.{ruleAt, plateIn}
-use Rattle.plate.specs.Stands.{Here, fieldOf}
+use Rattle.plate.specs.Stands.{Here, packed, fieldOf}
 use Rattle.branches.specs.Branches.{Use, start}
 use Rattle.branches.specs.Room.{outcome}
 use Rattle.branches.specs.Held.{BranchesOk, branchesOf}
@@ -24,6 +26,7 @@ use Rattle.coder.specs.declared.Found.the-variants.{At, Nothing}
 use Rattle.coder.specs.declared.NameFault.{NameFault}
 use Rattle.coder.specs.declared.NameFault.the-variants as fault
 use Rattle.coder.specs.declared.Prepared.{Prepared}
+use Rattle.coder.specs.declared.Ahead.{Ahead}
 use Rattle.coder.specs.declared.NextUse.{NextUse}
 
 -- ---- a name, prepared
@@ -39,10 +42,37 @@ namedBy (fault.NotAllowed place) cs = Refused 11 place
 abbrev pub foreignFault : ℕ → List ℕ → NameFault
 foreignFault at bytes = cond (isText bytes) (fault.NotAllowed at) (fault.NotUtf8 (at + badPlace bytes))
 
-pub record PreparedIs (p : Plate) (name : List ℕ) (r : Prepared) : Type 0 where
-  pub is : namedBy (r .fault) (take (r .count) (r .chars)) ≡ named p name
+-- An ASCII character stands at a place that is neither dropped nor refused.
+pub record PlainAt (name : List ℕ) (at c : ℕ) : Type 0 where
+  pub within : at < length name
+  pub here : charOf (drop at name) ≡ One c 1
+  pub inked : white c ≡ false
+  pub allowed : tabled c ≡ true
+
+-- The fault, or how many characters stand in front of what was lent for them.
+pub record PreparedIs (p : Plate) (name chars : List ℕ) (r : Prepared) : Type 0 where
+  pub is : namedBy (r .fault) (take (r .count) chars) ≡ named p name
   pub few : r .count ≤ mostName
-  pub long : length (r .chars) ≡ mostName
+
+-- ---- the characters ahead
+
+-- the first n of them; zeros behind their end
+unfoldable pub ahead : ℕ → List ℕ → List ℕ
+ahead zero cs = []
+ahead (suc n) [] = 0 ∷ ahead n []
+ahead (suc n) (c ∷ cs) = c ∷ ahead n cs
+
+-- the first n are ASCII
+unfoldable pub Plain : ℕ → List ℕ → Type 0
+Plain zero cs = Unit {0}
+Plain (suc n) [] = Unit {0}
+Plain (suc n) (c ∷ cs) = (c < 128) × Plain n cs
+
+-- So many of them, up to six, are ASCII and stand as bytes in front of a word of 64 bits.
+pub record AheadIs (cs : List ℕ) (r : Ahead) : Type 0 where
+  pub few : r .plain ≤ 6
+  pub ascii : Plain (r .plain) cs
+  pub is : (n : ℕ) → n ≤ r .plain → r .word / 2 ^ (64 - 8 * n) ≡ packed 0 (ahead n cs)
 
 -- ---- the search
 

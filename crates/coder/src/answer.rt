@@ -10,6 +10,7 @@ ghost use Rattle.coder.specs.Walk.{uses};
 ghost use Rattle.coder.specs.Answer.{smaller, codedBy, listAnswer, encodeAnswer};
 ghost use Rattle.coder.specs.Outcome.{told, listedTo, codeAnswer};
 use super::Coded;
+use super::MOST_NAME;
 use super::NameFault;
 use super::name::prepare;
 use super::run::run;
@@ -64,14 +65,14 @@ pub fn code_accepted(
     ensures { λ r. ⌜ told r (now (out .exit)) ≡ codedBy (listedTo most) (plateIn (now (plate .entry))) (now (name .entry)) (now (out .entry)) ⌝ }
 {
     let t = lowers();
-    let p = prepare(plate, name, &t);
+    let mut chars = [0u32; MOST_NAME];
+    let p = prepare(plate, name, &t, &mut chars);
     let fault = p.fault;
     match fault {
         NameFault::TooLong => Coded::NameTooLong,
         NameFault::NotUtf8(place) => Coded::NotUtf8(place),
         NameFault::NotAllowed(place) => Coded::CharacterNotAllowed(place),
         NameFault::None => {
-            let chars = p.chars;
             let n = p.count;
             code_chars(plate, places, groups, &chars[..n], out, most)
         }

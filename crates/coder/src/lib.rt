@@ -22,11 +22,16 @@ enum NameFault {
     NotAllowed(usize),
 }
 
-// The characters that are coded, zeros behind them; none where there is a fault.
+// How many characters are coded, of those that stand in what was lent for them; or the fault.
 struct Prepared {
-    chars: [u32; MOST_NAME],
     count: usize,
     fault: NameFault,
+}
+
+// The first characters ahead, up to six, as bytes in front of a word: those that are ASCII, up to the first that is not; zeros behind the end.
+struct Ahead {
+    word: u64,
+    plain: usize,
 }
 
 // The next use along a name: the rule's place and the number of the field taken (0 start, 1 before vowel, 2 default), whether its alternatives are appended

@@ -1,62 +1,68 @@
 // From the characters of a name to the uses of rules: at each character the rule taken, and its field.
 ghost use mathlib.Core.Path.{_≡_};
 ghost use mathlib.Core.Bool.{true, false};
-ghost use mathlib.Core.List.{List};
-ghost use Prim.Native.Nat.{ℕ, _<_, _≤_};
+ghost use Prim.Native.Nat.{_-_, _*_, _^_, _<_, _≤_};
 ghost use lib.ListN.{length, drop, getD};
-ghost use Rattle.laws.specs.Lists.{begins};
-ghost use Rattle.plate.specs.Read.{plateIn, accepted, ruleAt};
+ghost use Rattle.plate.specs.Read.{plateIn, accepted};
 ghost use Rattle.plate.specs.Noted.{Noted};
-ghost use Rattle.coder.specs.Walk.{letters, vowelFollows, forced};
-ghost use Rattle.coder.specs.Held.{hitAt, FoundIs, beforeOf, whichField, NextIs};
+ghost use Rattle.coder.specs.Walk.{vowelFollows, forced};
+ghost use Rattle.coder.specs.Held.{AheadIs, hitAt, FoundIs, beforeOf, whichField, NextIs};
+use super::Ahead;
 use super::Found;
 use super::NextUse;
 use chars::Next;
 use chars::letters::is_vowel;
-use plate::bits::bits;
+use plate::Beginning;
 use plate::note::group_of;
 use plate::read;
 
-// The second of some characters; 0 where there is none.
-fn second_of(rest: &[u32]) -> u32
-    ensures { λ r. ⌜ r ≡ getD (now (rest .entry)) 1 0 ⌝ }
+// One of some characters; 0 behind the last.
+fn code_at(rest: &[u32], i: usize) -> u32
+    ensures { λ r. ⌜ r ≡ getD (now (rest .entry)) i 0 ⌝ }
 {
-    if 1 < rest.len() {
-        return rest[1];
+    if i < rest.len() {
+        return rest[i];
     }
     0
 }
 
-// The rule at a place does not begin the characters, by its pattern's second byte alone: so most rules of a group are passed. The length and the first two
-// bytes, which must be ASCII, are one read.
-fn second_differs(plate: &[u8], here: usize, second: u32) -> bool
-    ensures { λ r. ⌜ (r ≡ true → (rest : List ℕ) → second ≡ getD rest 1 0 → begins (letters (ruleAt (now (plate .entry)) here)) rest ≡ false) ⌝ }
+// So many bytes, shifted to the front of the word.
+fn in_front(bytes: u64, plain: usize) -> Ahead
+    requires { ⌜ (plain ≤ 6) × (bytes < 2 ^ (8 * plain)) ⌝ }
+    ensures { λ r. ⌜ r ≡ record { word = bytes * 2 ^ (64 - 8 * plain); plain = plain } ⌝ }
 {
-    let front = bits(plate, here, 21);
-    if front < 0x20000 {
-        return false;
+    if plain == 0 {
+        return Ahead { word: 0, plain };
     }
-    if 0x8000 <= front % 0x10000 {
-        return false;
+    let word = bytes << (64 - 8 * plain);
+    Ahead { word, plain }
+}
+
+// The characters ahead as a word: with it a pattern of so many ASCII characters is compared at once.
+fn ahead_of(rest: &[u32]) -> Ahead
+    ensures { λ r. ⌜ AheadIs (now (rest .entry)) r ⌝ }
+{
+    let mut bytes: u64 = 0;
+    let mut i: usize = 0;
+    while i < 6 {
+        let c = code_at(rest, i);
+        if 0x80 <= c {
+            return in_front(bytes, i);
+        }
+        bytes = bytes * 256 + c as u64;
+        i += 1;
     }
-    let byte = front % 0x100;
-    if 0x80 <= byte {
-        return false;
-    }
-    if byte == second {
-        return false;
-    }
-    true
+    in_front(bytes, 6)
 }
 
 // "Otherwise take the longest pattern that begins here; of equal patterns the first. The search stops at that rule." Only the rules of the character's
-// group are looked at. Within a first character patterns stand longest first, so the first that fits is taken.
+// group are looked at, most of them by one comparison. Within a first character patterns stand longest first, so the first that fits is taken.
 fn search(plate: &[u8], places: &[u32], groups: &[u32], rest: &[u32]) -> Found
     requires { ⌜ (accepted (now plate) ≡ true) × Noted (now plate) (now places) (now groups) × (0 < length (now rest)) ⌝ }
     ensures { λ r. ⌜ FoundIs (now (plate .entry)) (hitAt false (plateIn (now (plate .entry)) .rules) (now (rest .entry))) r ⌝ }
 {
     let group = group_of(plate, places, groups, rest[0]);
-    let second = second_of(rest);
+    let ahead = ahead_of(rest);
     let mut i = group.first;
     'rules: loop {
         if group.behind <= i {
@@ -64,25 +70,32 @@ fn search(plate: &[u8], places: &[u32], groups: &[u32], rest: &[u32]) -> Found
         }
         let here = places[i] as usize;
         i += 1;
-        if second_differs(plate, here, second) {
-            continue 'rules;
-        }
-        let n = read::pattern_length(plate, here);
-        let mut k: usize = 0;
-        let mut j: usize = 0;
-        'bytes: loop {
-            if n <= k {
-                break 'rules Found::At(here, j);
+        match read::pattern_begins(plate, here, ahead.word, ahead.plain) {
+            Beginning::Is(n) => {
+                break 'rules Found::At(here, n);
             }
-            let p = read::pattern_char(plate, here, k);
-            if rest.len() <= j {
+            Beginning::Not => {
                 continue 'rules;
             }
-            if p.code != rest[j] {
-                continue 'rules;
+            Beginning::Unsaid => {
+                let n = read::pattern_length(plate, here);
+                let mut k: usize = 0;
+                let mut j: usize = 0;
+                'bytes: loop {
+                    if n <= k {
+                        break 'rules Found::At(here, j);
+                    }
+                    let p = read::pattern_char(plate, here, k);
+                    if rest.len() <= j {
+                        continue 'rules;
+                    }
+                    if p.code != rest[j] {
+                        continue 'rules;
+                    }
+                    k += p.width;
+                    j += 1;
+                }
             }
-            k += p.width;
-            j += 1;
         }
     }
 }

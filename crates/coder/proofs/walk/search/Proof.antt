@@ -1,11 +1,12 @@
 -- `walk::search` meets its contract. The loop over the group's rules keeps Groups.Left: the search from here on, in the group, is the search over all rules.
--- The loop over a pattern's bytes keeps: what is left of the pattern begins the characters left exactly if the whole pattern begins them all. Assumes nothing.
+-- Most patterns are decided by the characters ahead (Compared.said-begins, Compared.said-not). The loop over a pattern's bytes keeps: what is left of the pattern begins the characters left exactly if the whole pattern begins them all. Assumes nothing.
 use Prim.Native.Nat.{ℕ, _+_, _-_, _≤_, _<_}
 use mathlib.Core.Path.{_≡_, sym, ap, _∙_}
 use mathlib.Core.Bool.{false}
 use mathlib.Core.List.{List}
 use native.Mathlib.Nat.{zero-add}
 use native.Mathlib.Omega.{arith}
+use borrow.Author.Needs.{needs}
 use lib.ListN.{length, drop, getD}
 use Rattle.laws.specs.Lists.{begins}
 use Rattle.plate.specs.Read.{patternAt, ruleAt}
@@ -13,23 +14,24 @@ use Rattle.plate.specs.Stands.{Here, Mark, lettersFrom}
 use Rattle.plate.proofs.Parts.{mark-start}
 use Rattle.coder.specs.Walk.{letters}
 use Rattle.coder.proofs.Groups.{Left, left-start, left-end, left-hit, left-miss, has-place, stands, one-letter}
+use Rattle.coder.proofs.Compared.{said-begins, said-not}
 use Rattle.coder.proofs.Patterns.{all, ends, differs, agrees, pattern-start, pattern-end}
 use Rattle.coder.proofs.walk.search.Statement.{statement}
 use Rattle.coder.proofs.walk.search.Tie as tie
 
 abbrev Inv-bytes : tie.InvT-bytes
-Inv-bytes plate places groups rest group second i here n k₀ j₀ k j =
+Inv-bytes plate places groups rest group ahead i here n k₀ j₀ k j =
     (j ≤ k) × (k ≤ n) × Mark plate here k × (j + length (lettersFrom plate here k) ≡ length (letters (ruleAt plate here)))
     × (begins (lettersFrom plate here k) (drop j rest) ≡ begins (letters (ruleAt plate here)) rest)
 
 abbrev μ-bytes : tie.MeasureT-bytes
-μ-bytes plate places groups rest group second i here n k₀ j₀ k j = n - k
+μ-bytes plate places groups rest group ahead i here n k₀ j₀ k j = n - k
 
 abbrev Inv-rules : tie.InvT-rules
-Inv-rules plate places groups rest group second i₀ i = Left plate places rest (group .first) (group .behind) i
+Inv-rules plate places groups rest group ahead i₀ i = Left plate places rest (group .first) (group .behind) i
 
 abbrev μ-rules : tie.MeasureT-rules
-μ-rules plate places groups rest group second i₀ i = group .behind - i
+μ-rules plate places groups rest group ahead i₀ i = group .behind - i
 
 -- ---- what was lent, and the rule whose turn it is, seen from behind the call of group_of and from behind the loop's test
 
@@ -45,8 +47,11 @@ rest-of g = let known = g .before .before .before in known .before .before .befo
 abbrev group-at : tie.Else1 Inv-bytes μ-bytes Inv-rules μ-rules → tie.After-group-of Inv-bytes μ-bytes Inv-rules μ-rules
 group-at e = e .before .before .before .before
 
+abbrev told-at : tie.After-pattern-begins Inv-bytes μ-bytes Inv-rules μ-rules → tie.Else1 Inv-bytes μ-bytes Inv-rules μ-rules
+told-at b = b .before .before
+
 abbrev turn : tie.After-pattern-length Inv-bytes μ-bytes Inv-rules μ-rules → tie.Else1 Inv-bytes μ-bytes Inv-rules μ-rules
-turn p = p .before .before .before .before
+turn p = told-at (p .before .before .before)
 
 abbrev place-of : tie.Else1 Inv-bytes μ-bytes Inv-rules μ-rules → ℕ
 place-of e = getD (places-of (group-at e)) (e .before .before .rules .i) 0
@@ -80,7 +85,7 @@ missed e b =
     left-miss (plate-of g) (places-of g) (rest-of g) (r .first) (r .behind) (p .0) (p .1 .0) (g .group-of .ensures) (p .2) (l .i) (e .if1 .left) (l .inv) b
 
 -- More of the pattern is left.
-short : (c : tie.Else3 Inv-bytes μ-bytes Inv-rules μ-rules)
+short : (c : tie.Else2 Inv-bytes μ-bytes Inv-rules μ-rules)
     → let e = turn (c .before .before) in c .before .bytes .k < length (patternAt (plate-of (group-at e)) (place-of e))
 short c = let l = c .before .before .pattern-length .ensures in omega arith
 
@@ -92,8 +97,8 @@ shared-slice-read-group-of c = let known = c .before .before in known .before .b
 group-of-requires : tie.Need-group-of-requires Inv-bytes μ-bytes Inv-rules μ-rules
 group-of-requires c κs = let p = let known = c .before .before in known .before .before .before .pre in (p .0, p .1)
 
-second-of-requires : tie.Need-second-of-requires Inv-bytes μ-bytes Inv-rules μ-rules
-second-of-requires c κs = tt
+ahead-of-requires : tie.Need-ahead-of-requires Inv-bytes μ-bytes Inv-rules μ-rules
+ahead-of-requires c κs = tt
 
 rules-holds : tie.Need-rules-holds Inv-bytes μ-bytes Inv-rules μ-rules
 rules-holds c =
@@ -114,24 +119,32 @@ cast-here c = record { fits = let n = here (c .before) .near in omega arith }
 add-i : tie.Need-add-i Inv-bytes μ-bytes Inv-rules μ-rules
 add-i c = let r = room (c .before) in omega arith
 
-second-differs-requires : tie.Need-second-differs-requires Inv-bytes μ-bytes Inv-rules μ-rules
-second-differs-requires c κs = tt
+pattern-begins-requires : tie.Need-pattern-begins-requires Inv-bytes μ-bytes Inv-rules μ-rules
+pattern-begins-requires c κs = let e = c .before in (here e, e .before .before .before .ahead-of .ensures .few)
+
+enum-known-n : tie.Need-enum-known-n Inv-bytes μ-bytes Inv-rules μ-rules
+enum-known-n c = search needs
+
+enum-told : tie.Need-enum-told Inv-bytes μ-bytes Inv-rules μ-rules
+enum-told c = search needs
 
 rules-less : tie.Need-rules-less Inv-bytes μ-bytes Inv-rules μ-rules
 rules-less c =
-    let e = c .before .before .before in
+    let e = told-at (c .before .before) in
     omega (arith, e .if1 .left)
 
--- Its second character is another.
+-- The characters ahead are others.
 rules-again : tie.Need-rules-again Inv-bytes μ-bytes Inv-rules μ-rules
 rules-again c =
-    let tested = c .before in
-    let e = tested .before .before in
-    let second = e .before .before .before .second-of .ensures in
-    missed e (tested .second-differs .ensures (c .if2 .taken) (rest-of (group-at e)) second)
+    let b = c .before .before in
+    let e = told-at b in
+    missed e (said-not (plate-of (group-at e)) (place-of e) (here e) (rest-of (group-at e)) _ (e .before .before .before .ahead-of .ensures) _ (b .pattern-begins .ensures) (c .enum-told .given .1))
+
+enum-told-2 : tie.Need-enum-told-2 Inv-bytes μ-bytes Inv-rules μ-rules
+enum-told-2 c = search needs
 
 pattern-length-requires : tie.Need-pattern-length-requires Inv-bytes μ-bytes Inv-rules μ-rules
-pattern-length-requires c κs = here (c .before .before .before)
+pattern-length-requires c κs = here (told-at (c .before .before))
 
 bytes-holds : tie.Need-bytes-holds Inv-bytes μ-bytes Inv-rules μ-rules
 bytes-holds c =
@@ -158,13 +171,13 @@ rules-less-2 c =
 rules-again-2 : tie.Need-rules-again-2 Inv-bytes μ-bytes Inv-rules μ-rules
 rules-again-2 c =
     let at-byte = c .before .before in
-    missed (turn (at-byte .before .before)) (sym (at-byte .before .bytes .inv .4) ∙ ends _ _ _ _ _ (c .before .pattern-char .ensures .front) (c .if4 .taken))
+    missed (turn (at-byte .before .before)) (sym (at-byte .before .bytes .inv .4) ∙ ends _ _ _ _ _ (c .before .pattern-char .ensures .front) (c .if3 .taken))
 
-mul-if5 : tie.Need-mul-if5 Inv-bytes μ-bytes Inv-rules μ-rules
-mul-if5 c = omega arith
+mul-if4 : tie.Need-mul-if4 Inv-bytes μ-bytes Inv-rules μ-rules
+mul-if4 c = omega arith
 
-shared-slice-read-if5 : tie.Need-shared-slice-read-if5 Inv-bytes μ-bytes Inv-rules μ-rules
-shared-slice-read-if5 c = omega arith
+shared-slice-read-if4 : tie.Need-shared-slice-read-if4 Inv-bytes μ-bytes Inv-rules μ-rules
+shared-slice-read-if4 c = omega arith
 
 rules-less-3 : tie.Need-rules-less-3 Inv-bytes μ-bytes Inv-rules μ-rules
 rules-less-3 c =
@@ -178,7 +191,7 @@ rules-again-3 c =
     let more = c .before .before .before in
     let at-byte = more .before .before in
     missed (turn (at-byte .before .before))
-    (sym (at-byte .before .bytes .inv .4) ∙ differs _ _ _ _ _ (more .before .pattern-char .ensures .front) (more .if4 .left) (c .if5 .taken))
+    (sym (at-byte .before .bytes .inv .4) ∙ differs _ _ _ _ _ (more .before .pattern-char .ensures .front) (more .if3 .left) (c .if4 .taken))
 
 add-k : tie.Need-add-k Inv-bytes μ-bytes Inv-rules μ-rules
 add-k c =
@@ -218,7 +231,7 @@ bytes-again c =
     let e = ap length (r .front) in
     let l = at-byte .before .before .pattern-length .ensures in
     let m = i .3 in
-    (omega arith, omega arith, r .mark, omega arith, agrees _ _ _ _ _ (r .front) (more .if4 .left) (c .before .if5 .left) ∙ i .4)
+    (omega arith, omega arith, r .mark, omega arith, agrees _ _ _ _ _ (r .front) (more .if3 .left) (c .before .if4 .left) ∙ i .4)
 
 returns : tie.Need-returns Inv-bytes μ-bytes Inv-rules μ-rules
 returns c =
@@ -231,6 +244,27 @@ returns c =
 
 returns-2 : tie.Need-returns-2 Inv-bytes μ-bytes Inv-rules μ-rules
 returns-2 c =
+    let b = c .before .before .before in
+    let e = told-at b in
+    let g = group-at e in
+    let p = let known = g .before .before .before in known .before .before .before .pre in
+    let turn = e .before .before .rules in
+    let found = g .group-of .result in
+    let s = plate-of g in
+    let at = place-of e in
+    let said = said-begins s at (here e) (rest-of g) _ (e .before .before .before .ahead-of .ensures) _ (b .pattern-begins .ensures) _ (c .before .n .given .1) in
+    let some = one-letter s at (here e) in
+    let counted = said .1 in
+    let few = said .2 in record {
+      taken = left-hit s (places-of g) (rest-of g) (found .first) (found .behind) (p .0) (p .1 .0) (g .group-of .ensures) (p .2) (turn .i) (e .if1 .left) (turn .inv) (said .0);
+      here = here e;
+      counted = counted;
+      some = omega arith;
+      few = omega arith;
+    }
+
+returns-3 : tie.Need-returns-3 Inv-bytes μ-bytes Inv-rules μ-rules
+returns-3 c =
     let e = turn (c .before .before) in
     let g = group-at e in
     let p = let known = g .before .before .before in known .before .before .before .pre in
@@ -264,22 +298,25 @@ search-spec =
     μ-rules
     shared-slice-read-group-of
     group-of-requires
-    second-of-requires
+    ahead-of-requires
     rules-holds
     mul-here
     shared-slice-read-here
     cast-here
     add-i
-    second-differs-requires
+    pattern-begins-requires
+    enum-known-n
+    enum-told
     rules-less
     rules-again
+    enum-told-2
     pattern-length-requires
     bytes-holds
     pattern-char-requires
     rules-less-2
     rules-again-2
-    mul-if5
-    shared-slice-read-if5
+    mul-if4
+    shared-slice-read-if4
     rules-less-3
     rules-again-3
     add-k
@@ -287,4 +324,5 @@ search-spec =
     bytes-less
     bytes-again
     returns
-    returns-2)
+    returns-2
+    returns-3)
