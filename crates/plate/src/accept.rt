@@ -39,8 +39,8 @@ use super::pattern;
 use super::plain::plain_code;
 use super::plain::plain_fields;
 use super::plain::quick_code;
+use super::plain::quick_fields;
 use super::plain::short_field;
-use super::plain::single_fields;
 use super::plain::target_in;
 use super::reader;
 use super::window::part;
@@ -177,7 +177,7 @@ fn end_rule(plate: &[u8], at: usize) -> Seen
     if code == 0 {
         return any_rule(plate, at);
     }
-    let bits = single_fields(window(plate, at + 5 + 8 * length));
+    let bits = quick_fields(window(plate, at + 5 + 8 * length));
     if bits == 0 {
         return any_rule(plate, at);
     }

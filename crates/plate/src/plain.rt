@@ -204,7 +204,7 @@ fn three_digits(w: u64) -> bool
 }
 
 // The bits of three such fields, of which the first has a digit: the shape of nine rules in ten.
-fn quick_fields(w: u64) -> usize
+pub(crate) fn quick_fields(w: u64) -> usize
     ensures { λ r. ⌜ (r ≤ 41) × Takes fieldsStep 41 w r ⌝ }
 {
     if three_digits(w) {
@@ -249,41 +249,6 @@ fn short_alternative(w: u64) -> usize
         return 0;
     }
     if (w >> 53) % 16 <= 9 { 11 } else { 0 }
-}
-
-// The bits of a field of one such alternative.
-fn single_field(w: u64) -> usize
-    ensures { λ r. ⌜ (r ≤ 15) × Takes fieldStep 15 w r ⌝ }
-{
-    if is_digit(w) {
-        return 11;
-    }
-    if w >> 60 == 1 {
-        let bits = short_alternative(w << 4);
-        if 0 < bits {
-            return 4 + bits;
-        }
-    }
-    0
-}
-
-// The bits of three such fields.
-pub(crate) fn single_fields(w: u64) -> usize
-    ensures { λ r. ⌜ (r ≤ 45) × Takes fieldsStep 45 w r ⌝ }
-{
-    let start = single_field(w);
-    if start == 0 {
-        return 0;
-    }
-    let vowel = single_field(w << start);
-    if vowel == 0 {
-        return 0;
-    }
-    let other = single_field(w << (start + vowel));
-    if other == 0 {
-        return 0;
-    }
-    start + vowel + other
 }
 
 // The bits of a field of one or two such alternatives.

@@ -1,4 +1,4 @@
--- `plate::accept::end_rule` meets its contract: a plain pattern and single fields are those of the definition (Accepted.rule-good); any other rule is left to
+-- `plate::accept::end_rule` meets its contract: a plain pattern and quick fields are those of the definition (Accepted.rule-good); any other rule is left to
 -- `any_rule`. Assumes nothing.
 use Prim.Native.Nat.{ℕ, _+_, _*_}
 use mathlib.Core.Path.{_≡_, refl, _∙_, ap}
@@ -42,8 +42,8 @@ add-window-2 c = search needs
 window-requires-2 : tie.Need-window-requires-2
 window-requires-2 c κs = search needs
 
-single-fields-requires : tie.Need-single-fields-requires
-single-fields-requires c κs = search needs
+quick-fields-requires : tie.Need-quick-fields-requires
+quick-fields-requires c κs = search needs
 
 any-rule-requires-2 : tie.Need-any-rule-requires-2
 any-rule-requires-2 c κs = search needs
@@ -77,7 +77,7 @@ returns-3 c =
     let n = counted .part .result in
     let code = coded .plain-code in
     let few = code .ensures (plain .if1 .left) .0 in
-    let b = fields .single-fields in
+    let b = fields .quick-fields in
     let short = b .ensures .0 in
     let at-fields = a .at + 5 + 8 * n in
     let next = at-fields + b .result in
@@ -85,7 +85,7 @@ returns-3 c =
     counted .part .ensures .1 s (a .at) 57 (omega arith) (omega arith) (w .ensures) ∙ ap (λ (p : ℕ). numberAt s p 5) (add-zero (a .at)) in
     let is-code : FirstIs.Code (code .result) ≡ firstOf (bytesAt s n (a .at + 5)) =
     code .ensures (plain .if1 .left) .1 s (a .at + 5) (behind-held s (a .at) 57 (w .result) 5 48 (w .ensures) (omega arith) (omega arith)) in
-    let held = front s at-fields 57 (further .window2 .result) (further .window2 .ensures) (omega arith) 45 (omega arith) in (
+    let held = front s at-fields 57 (further .window2 .result) (further .window2 .ensures) (omega arith) 41 (omega arith) in (
       rule-good s (a .at) n length-is (FirstIs.Code (code .result)) is-code (code .result) refl (To next) (b .ensures .1 (c .if2 .left) s at-fields held) next refl,
       omega arith,
     )
@@ -103,7 +103,7 @@ end-rule-spec =
     mul-window
     add-window-2
     window-requires-2
-    single-fields-requires
+    quick-fields-requires
     any-rule-requires-2
     returns-2
     add-t11
