@@ -11,12 +11,11 @@ use Rattle.plate.specs.Bits.{numberAt}
 use Rattle.plate.specs.Most.{mostRules}
 use Rattle.plate.specs.Read.{patternAt, ruleAt, foldingAt, foldBy, rulesPlace, countWidth, mostOf, accepted, plateIn}
 use Rattle.plate.specs.Answers.{bytesAt, frontOf, frontTo, goodText, HeadIs}
-use Rattle.plate.specs.Stands.{Stands, LetterIs, beginning, firstKey, fieldOf, heldField, heldSingle}
+use Rattle.plate.specs.Stands.{Stands, LetterIs, beginning, firstKey, fieldOf, heldField}
 use Rattle.plate.specs.declared.edition.Head.{Head}
 use Rattle.plate.specs.declared.Front.{Front}
 use Rattle.plate.specs.declared.Letter.{Letter}
 use Rattle.plate.specs.declared.Beginning.{Beginning}
-use Rattle.plate.specs.declared.Single.{Single}
 use Rattle.plate.specs.declared.Field.{Field}
 use Rattle.plate.specs.declared.reader.BitReader.{BitReader}
 use Rattle.plate.specs.declared.reader.Folding.{Folding}
@@ -65,9 +64,6 @@ module _ (s : List ℕ) where
 
   pub pattern-begins : (at word plain : ℕ) (r r′ : Beginning) → r ≡ beginning (patternAt s at) word plain → r′ ≡ beginning (patternAt s at) word plain → r ≡ r′
   pattern-begins at word plain r r′ e f = only e f
-
-  pub single-at : (at which most : ℕ) (r r′ : Single) → r ≡ heldSingle (take most (fieldOf (ruleAt s at) which)) → r′ ≡ heldSingle (take most (fieldOf (ruleAt s at) which)) → r ≡ r′
-  single-at at which most r r′ e f = only e f
 
   pub field-at : (at which most : ℕ) (r r′ : Field) → r ≡ heldField (take most (fieldOf (ruleAt s at) which)) → r′ ≡ heldField (take most (fieldOf (ruleAt s at) which)) → r ≡ r′
   field-at at which most r r′ e f = only e f

@@ -1,26 +1,21 @@
--- Parts of a plate that are read whole: a pattern as one number beside the characters ahead, the first key, an alternative alone. Assumes nothing.
+-- Parts of a plate that are read whole: a pattern as one number beside the characters ahead, the first key. Assumes nothing.
 use Prim.Native.Nat.{ℕ, zero, suc, _+_, _-_, _*_, _/_, _%_, _^_, _<_, _≤_}
-use mathlib.Core.Path.{_≡_, refl, sym, ap, ap₂, _∙_}
-use mathlib.Core.Logic.{_⊎_}
+use mathlib.Core.Path.{_≡_, sym, ap, ap₂, _∙_}
 use mathlib.Core.Bool.{Bool, true, false, cond}
-use mathlib.Core.List.{List, [], _∷_}
+use mathlib.Core.List.{List}
 use native.Mathlib.Nat.{add-zero, zero-add}
 use native.Mathlib.Omega.{arith}
 use borrow.Author.Tests.{lt-ltb, le-ltb, eq-eqb, ne-eqb}
-use lib.Dec.{ltb, eqb}
-use lib.ListN.{length, take}
+use lib.Dec.{eqb}
+use lib.ListN.{length}
 use Rattle.plate.specs.Bits.{numberAt}
 use Rattle.plate.specs.Window.{Holds}
-use Rattle.plate.specs.Read.{many, alternativeAt, alternativeEnd, fieldAt, patternAt, ruleAt, foldingAt, foldingEnd}
+use Rattle.plate.specs.Read.{many, patternAt, foldingAt, foldingEnd}
 use Rattle.plate.specs.Answers.{bytesAt}
-use Rattle.plate.specs.Stands.{packed, beginning, firstKey, fieldOf, fieldPlace, heldAlternative, heldSingle}
-use Rattle.plate.specs.declared.Alternative.{Alternative}
-use Rattle.plate.specs.declared.Single.{Single}
-use Rattle.plate.specs.declared.Beginning.{Beginning}
+use Rattle.plate.specs.Stands.{packed, beginning, firstKey}
 use Rattle.plate.specs.declared.Beginning.the-variants.{Is, Not, Unsaid}
 use Rattle.plate.proofs.Windows.{number-append, front, shifted}
-use Rattle.plate.proofs.Listed.{many-cons, take-least}
-use Rattle.plate.proofs.Parts.{field-here}
+use Rattle.plate.proofs.Listed.{many-cons}
 
 module _ (s : List ℕ) where
   -- ---- bytes as one number
@@ -60,32 +55,6 @@ module _ (s : List ℕ) where
 
     pub key-first : 1 ≤ n → (k : ℕ) → k ≡ numberAt s 32 21 → k ≡ firstKey (many (foldingAt s) foldingEnd count 32)
     key-first h k f = f ∙ sym (ap firstKey (many-cons (foldingAt s) foldingEnd count 32 (omega arith)))
-
-  -- ---- an alternative alone
-
-  module _ (at which from : ℕ) (e : from ≡ fieldPlace s at which) (n : ℕ) (d : n ≡ numberAt s from 4)
-      (most m : ℕ) (h : m ≤ n) (i : m ≤ most) (j : (m ≡ n) ⊎ (m ≡ most)) where
-    abbrev firsts : ℕ → List (List ℕ)
-    firsts k = many (alternativeAt s) (alternativeEnd s) k (from + 4)
-
-    taken : firsts m ≡ take most (fieldOf (ruleAt s at) which)
-    taken =
-        sym (take-least (alternativeAt s) (alternativeEnd s) most n m (from + 4) h i j)
-        ∙ ap (λ (y : ℕ). take most (firsts y)) d
-        ∙ ap (take most) (ap (fieldAt s) e ∙ sym (field-here s at which))
-
-    pub single-held : m ≡ 1 → (a : Alternative) → a ≡ heldAlternative (alternativeAt s (from + 4))
-        → _≡_ {A = Single} (record { alternative = a; alone = true }) (heldSingle (take most (fieldOf (ruleAt s at) which)))
-    single-held f a g =
-        ap (λ (x : Alternative). record { alternative = x; alone = true }) g ∙ ap (λ (k : ℕ). heldSingle (firsts k)) {x = 1} {y = m} (sym f) ∙ ap heldSingle taken
-
-    pub single-none : (m ≡ 1 → ⊥) → _≡_ {A = Single} (record { alternative = heldAlternative []; alone = false }) (heldSingle (take most (fieldOf (ruleAt s at) which)))
-    single-none f = go m f ∙ ap heldSingle taken
-      where
-        go : (k : ℕ) → (k ≡ 1 → ⊥) → _≡_ {A = Single} (record { alternative = heldAlternative []; alone = false }) (heldSingle (firsts k))
-        go zero g = refl
-        go (suc zero) g = absurd (g refl)
-        go (suc (suc k)) g = refl
 
 -- ---- what is said of a pattern beside the characters ahead
 

@@ -13,7 +13,6 @@ use Rattle.plate.specs.Read.{patternAt, startPlace, vowelPlace, otherPla
 use Rattle.plate.specs.declared.Letter.{Letter}
 use Rattle.plate.specs.declared.Alternative.{Alternative}
 use Rattle.plate.specs.declared.Field.{Field}
-use Rattle.plate.specs.declared.Single.{Single}
 use Rattle.plate.specs.declared.Beginning.{Beginning}
 use Rattle.plate.specs.declared.Beginning.the-variants.{Is, Not, Unsaid}
 
@@ -89,9 +88,3 @@ heldAlternative ds = record { digits = ds ++ replicate (mostDigits - length ds) 
 -- a field as it is held: the fill is the empty alternative
 abbrev pub heldField : List (List ℕ) → Field
 heldField f = record { alternatives = map heldAlternative f ++ replicate (mostAlternatives - length f) (heldAlternative []); count = length f }
-
--- an alternative alone, as it is held
-abbrev pub heldSingle : List (List ℕ) → Single
-heldSingle [] = record { alternative = heldAlternative []; alone = false }
-heldSingle (a ∷ []) = record { alternative = heldAlternative a; alone = true }
-heldSingle (a ∷ b ∷ more) = record { alternative = heldAlternative []; alone = false }

@@ -100,9 +100,3 @@ pub struct Field {
     pub alternatives: [Alternative; MOST_ALTERNATIVES],
     pub count: usize,
 }
-
-// The alternative of a field that has no other, or that it has not one alone.
-pub struct Single {
-    pub alternative: Alternative,
-    pub alone: bool,
-}

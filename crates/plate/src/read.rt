@@ -10,7 +10,7 @@ ghost use Rattle.plate.specs.Plate.{mostBytes};
 ghost use Rattle.plate.specs.Most.{ruleMost, farthest};
 ghost use Rattle.plate.specs.Read.{alternativeAt, fieldEnd, patternAt, ruleAt, foldBy, rulesPlace, countWidth, accepted, plateIn};
 ghost use Rattle.plate.specs.Window.{Holds};
-ghost use Rattle.plate.specs.Stands.{Here, Stands, Mark, LetterIs, fieldOf, fieldPlace, heldAlternative, heldField, firstKey, beginning, heldSingle};
+ghost use Rattle.plate.specs.Stands.{Here, Stands, Mark, LetterIs, fieldOf, fieldPlace, heldAlternative, heldField, firstKey, beginning};
 use super::Alternative;
 use super::Beginning;
 use super::CHARACTER_BITS;
@@ -21,7 +21,6 @@ use super::Front;
 use super::Letter;
 use super::MOST_ALTERNATIVES;
 use super::MOST_DIGITS;
-use super::Single;
 use super::bits::bits;
 use super::bits::size;
 use super::edition::width_of;
@@ -205,30 +204,6 @@ fn least(a: usize, b: usize) -> usize
     ensures { λ r. ⌜ (r ≤ a) × (r ≤ b) × ((r ≡ a) ⊎ (r ≡ b)) ⌝ }
 {
     if a <= b { a } else { b }
-}
-
-// The alternative of field 0, 1 or 2 of the rule at a place, where of its first `most` there is one alone: most fields have no other, and need no array.
-pub fn single_at(plate: &[u8], at: usize, which: usize, most: usize) -> Single
-    requires { ⌜ Here (now plate) at × (which ≤ 2) ⌝ }
-    ensures { λ r. ⌜ r ≡ heldSingle (take most (fieldOf (ruleAt (now (plate .entry)) at) which)) ⌝ }
-{
-    let from = field_place(plate, at, which);
-    let n = least(size(plate, from, 4), most);
-    if n != 1 {
-        let none = Alternative {
-            digits: [b'0'; MOST_DIGITS],
-            count: 0,
-        };
-        return Single {
-            alternative: none,
-            alone: false,
-        };
-    }
-    let alternative = alternative_at(plate, from + 4);
-    Single {
-        alternative,
-        alone: true,
-    }
 }
 
 // The first `most` alternatives of field 0, 1 or 2 (start, before vowel, default) of the rule at a place.
