@@ -4,9 +4,10 @@
  * between calls and takes none from a heap; calls may run in several threads at once, each with its own buffers.
  *
  * Buffers. Every buffer is yours, before, during and after the call; nothing keeps a pointer. The buffers that are read (text, plate,
- * name and names) may be read-only. The buffer that is written (plate of dm_build, out of the others) must not overlap any other buffer
- * of the same call. No text needs a zero byte at its end. A pointer may be null where its length is 0, and nowhere else. Any bytes
- * and any lengths are allowed besides: what cannot be answered is refused by a number.
+ * name and names, index of dm_index_find) may be read-only. A buffer that is written (plate of dm_build, index and report of
+ * dm_index_make and dm_index_add, out of the others) must not overlap any other buffer of the same call. No text needs a zero byte at
+ * its end. A pointer may be null where its length is 0, and nowhere else. Any bytes and any lengths are allowed besides: what cannot be
+ * answered is refused by a number.
  *
  * What is written stands at the front of the buffer. The bytes behind it are left as they were, and after a refusal all of them are. */
 #ifndef ZENGILVAR_H
@@ -52,7 +53,14 @@ extern "C" {
 #define DM_WARD_NAMES 256 /* names of one call: 1 */
 #define DM_WARD_LINE 448  /* bytes to lend for each name, whatever its line takes: 12 */
 
-/* Numbers that come back. dm_build gives 0 to 9; dm_encode and dm_list give 0, 1, 2, 10, 11, 12; dm_ward gives 0, 1, 10, 12. */
+/* Limits of an index. Buffers of the last two lengths hold every index, and every answer of dm_index_find. */
+#define DM_RECORDS_MOST 4096 /* names of an index: 18 */
+#define DM_ENTRY_BYTES 4     /* bytes of an entry: a name has as many entries as codes, at most DM_CODES_MOST */
+#define DM_INDEX_MOST 1048576
+#define DM_FOUND_MOST 8192
+
+/* Numbers that come back. dm_build gives 0 to 9; dm_encode and dm_list give 0, 1, 2, 10, 11, 12; dm_ward gives 0, 1, 10, 12;
+ * dm_index_make and dm_index_add give 0, 10, 18; dm_index_find gives 0, 1, 2, 9, 10, 11, 12, 18. */
 enum dm_number {
     DM_ANSWERED = 0,
     DM_TOO_LONG = 1,
@@ -66,7 +74,8 @@ enum dm_number {
     DM_SHORT_BUFFER = 9,
     DM_NOT_A_PLATE = 10,
     DM_CHARACTER_NOT_ALLOWED = 11,
-    DM_ROOM_TOO_SMALL = 12
+    DM_ROOM_TOO_SMALL = 12,
+    DM_NOT_AN_INDEX = 18
 };
 
 /* What a number means, in words for people. */
@@ -81,10 +90,11 @@ static inline const char *dm_words(uint64_t number) {
     case DM_MANY_ALTERNATIVES: return "a field with over 8 alternatives";
     case DM_NOT_DIGITS: return "an alternative that is not 0 to 6 digits";
     case DM_TOO_MANY: return "over 1,500 rules, or over 128 folded characters";
-    case DM_SHORT_BUFFER: return "the buffer is shorter than the plate";
+    case DM_SHORT_BUFFER: return "the buffer is shorter than the plate, or than the records found";
     case DM_NOT_A_PLATE: return "the plate is damaged or no plate";
     case DM_CHARACTER_NOT_ALLOWED: return "a character that is neither white space nor below U+0180 nor U+0400 to U+045F";
     case DM_ROOM_TOO_SMALL: return "the buffer is too small for the codes, or the name has over 64 codes at some step";
+    case DM_NOT_AN_INDEX: return "no index, over 4,096 names in one, or no room for its entries or its report";
     default: return "a number that is not known here";
     }
 }
@@ -110,10 +120,15 @@ typedef struct {
     uint64_t number, length;
 } dm_written;
 
+/* number: as above. index_length, report_length: how many bytes of index and report are used now, 0 if refused. */
+typedef struct {
+    uint64_t number, index_length, report_length;
+} dm_indexed;
+
 /* Rule text to a plate, which the others read. `folding`: whether names are folded by the text's foldings. */
 dm_built dm_build(const uint8_t *text, size_t text_len, bool folding, uint8_t *plate, size_t plate_len);
 
-/* Whether these bytes are a plate: dm_encode, dm_list and dm_ward do not refuse them with 10. For plates that were kept or sent. */
+/* Whether these bytes are a plate: none of the calls below refuses them with 10. For plates that were kept or sent. */
 bool dm_is_plate(const uint8_t *plate, size_t plate_len);
 
 /* One code, six digits: that of the first alternative everywhere. */
@@ -131,6 +146,28 @@ dm_coded dm_list(const uint8_t *plate, size_t plate_len, const uint8_t *name, si
  * return belongs to its name, where it is white space. Whole lists are refused, and nothing written, by 10, then 1 for too many names,
  * then 12 for an `out` of less than DM_WARD_LINE bytes a name; a name is refused within its line, and the others are not touched by it. */
 dm_written dm_ward(const uint8_t *plate, size_t plate_len, const uint8_t *names, size_t names_len, uint8_t *out, size_t out_len);
+
+/* A code index of up to DM_RECORDS_MOST names, held as for dm_ward and numbered from 0: who shares a code with a name is found without
+ * coding all names again. `index` gets an entry of DM_ENTRY_BYTES for each code of each name, most significant byte first: code times
+ * 4,096 plus the name's number; entries rise strictly. `report` gets a byte a name: 0, or the number with which dm_list refuses it in
+ * DM_LIST_MOST bytes; such a name has no entry. Refused, and nothing written, by 10, then by 18 for too many names or a buffer that is
+ * too short for all entries or all names. DM_ENTRY_BYTES * DM_CODES_MOST bytes a name always do for the index. */
+dm_indexed dm_index_make(const uint8_t *plate, size_t plate_len, const uint8_t *names, size_t names_len, uint8_t *index, size_t index_len,
+                         uint8_t *report, size_t report_len);
+
+/* One name more, where index and report stand: index_used and report_used bytes of the buffers are in use, and the name gets the number
+ * report_used. It leaves what dm_index_make would have made of all names, by the same plate. A name that dm_list refuses is answered 0:
+ * it has its number in the report, and no entry. Beside what dm_index_make refuses, 18 is given where more is used than there is, where
+ * the bytes in use are no whole entries, do not rise strictly or hold a code above 999,999, and where an entry has a number that is not
+ * below report_used. */
+dm_indexed dm_index_add(const uint8_t *plate, size_t plate_len, const uint8_t *name, size_t name_len, uint8_t *index, size_t index_len,
+                        size_t index_used, uint8_t *report, size_t report_len, size_t report_used);
+
+/* The numbers of the names that share a code with this name, by the plate that the index was made by: two bytes each, most significant
+ * first, rising, each once. `index` is what is used of it and nothing behind. Refused by 10, by 18 where it is no index, then as dm_list
+ * refuses the name in DM_LIST_MOST bytes, last by 9 for an `out` that is too short; two bytes a name always do. */
+dm_written dm_index_find(const uint8_t *plate, size_t plate_len, const uint8_t *index, size_t index_len, const uint8_t *name,
+                         size_t name_len, uint8_t *out, size_t out_len);
 
 #ifdef __cplusplus
 }

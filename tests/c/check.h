@@ -44,6 +44,7 @@ void limits(void);
 void plates(void);
 void wards(void);
 void pages(void);
+void index_edges(void);
 void words(void);
 
 #endif

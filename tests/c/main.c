@@ -81,6 +81,7 @@ int main(void) {
     plates();
     wards();
     pages();
+    index_edges();
     words();
     printf("%s: %d checks, %d failed\n", language, checks, failed);
     return failed == 0 ? 0 : 1;

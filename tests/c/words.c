@@ -12,7 +12,7 @@ void words(void) {
         "a field with over 8 alternatives",
         "an alternative that is not 0 to 6 digits",
         "over 1,500 rules, or over 128 folded characters",
-        "the buffer is shorter than the plate",
+        "the buffer is shorter than the plate, or than the records found",
         "the plate is damaged or no plate",
         "a character that is neither white space nor below U+0180 nor U+0400 to U+045F",
         "the buffer is too small for the codes, or the name has over 64 codes at some step",
@@ -21,6 +21,8 @@ void words(void) {
     for (uint64_t number = 0; number < sizeof wanted / sizeof *wanted; number++) {
         expect(strcmp(dm_words(number), wanted[number]) == 0, "words", wanted[number]);
     }
+    expect(strcmp(dm_words(DM_NOT_AN_INDEX), "no index, over 4,096 names in one, or no room for its entries or its report") == 0, "words", "18");
+    expect(DM_NOT_AN_INDEX == 18 && strcmp(dm_words(17), wanted[13]) == 0 && strcmp(dm_words(19), wanted[13]) == 0, "words", "around 18");
     expect(strcmp(dm_words(UINT64_MAX), wanted[13]) == 0, "words", "the greatest number");
     char version[32];
     snprintf(version, sizeof version, "%d.%d.%d", DM_VERSION_MAJOR, DM_VERSION_MINOR, DM_VERSION_PATCH);
@@ -28,4 +30,5 @@ void words(void) {
     expect(sizeof(dm_built) == 24 && offsetof(dm_built, line) == 8 && offsetof(dm_built, length) == 16, "layout", "dm_built");
     expect(sizeof(dm_coded) == 24 && offsetof(dm_coded, count) == 8 && offsetof(dm_coded, place) == 16, "layout", "dm_coded");
     expect(sizeof(dm_written) == 16 && offsetof(dm_written, length) == 8, "layout", "dm_written");
+    expect(sizeof(dm_indexed) == 24 && offsetof(dm_indexed, index_length) == 8 && offsetof(dm_indexed, report_length) == 16, "layout", "dm_indexed");
 }

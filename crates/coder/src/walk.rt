@@ -17,7 +17,7 @@ use plate::note::group_of;
 use plate::read;
 
 // One of some characters; 0 behind the last.
-fn code_at(rest: &[u32], i: usize) -> u32
+fn char_ahead(rest: &[u32], i: usize) -> u32
     ensures { λ r. ⌜ r ≡ getD (now (rest .entry)) i 0 ⌝ }
 {
     if i < rest.len() {
@@ -45,7 +45,7 @@ fn ahead_of(rest: &[u32]) -> Ahead
     let mut bytes: u64 = 0;
     let mut i: usize = 0;
     while i < 6 {
-        let c = code_at(rest, i);
+        let c = char_ahead(rest, i);
         if 0x80 <= c {
             return in_front(bytes, i);
         }

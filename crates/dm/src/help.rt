@@ -17,6 +17,10 @@ fn put_page(out: &mut [u8], pen: Pen) -> Pen {
   dm build RULES PLATE [--no-folding]   makes a plate from rule text
   dm check RULES [--no-folding]         builds without writing; tells of rules
                                         and foldings that no name ever meets
+  dm index make NAMES INDEX             an index of the names, a line each
+  dm index add INDEX NAME...            names more; tells their numbers, from 0
+  dm index find INDEX NAME...           who shares a code: the numbers, and by
+                                        --names NAMES the names; all by --plate
   dm help, dm --version
 
 Names: words, or lines of a file by --names FILE, or of standard input by -.
@@ -29,7 +33,6 @@ character at fault, and the next name is taken. A refused build leaves PLATE as
 it was. Status: 0 all answered, 1 some refused, 2 wrong use, or a file or
 output that cannot be read or written.
 
-  dm list Rosochowaciec
   dm build my-rules.txt my.plate && dm list --plate my.plate Moskowitz Peters
 ",
     )

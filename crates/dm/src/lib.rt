@@ -1,4 +1,4 @@
-// dm, the command: codes names by a plate or by the standard rules, builds a plate from rule text, and checks a rule text.
+// dm, the command: codes names by a plate or by the standard rules, builds a plate from rule text, checks a rule text, and keeps an index of names.
 // Answers go to standard output, refusals and faults to standard error; the status says which of them there were.
 mod help; // help.rt: the page
 mod code; // code.rt: list and encode
@@ -40,6 +40,9 @@ fn command(word: &[u8], s: Scan, plate: &mut [u8], text: &mut [u8], out: &mut [u
     }
     if same(word, b"check") {
         return make::check(s, plate, text, out);
+    }
+    if same(word, b"index") {
+        return index_command::run(s, plate, text, out);
     }
     if same(word, b"help") {
         return help::page();

@@ -34,7 +34,7 @@ struct Turn {
 }
 
 // The length without the CR that some systems put before a newline.
-fn without_cr(line: &[u8]) -> usize {
+pub fn without_cr(line: &[u8]) -> usize {
     let n = line.len();
     if n == 0 {
         return 0;
@@ -46,7 +46,7 @@ fn without_cr(line: &[u8]) -> usize {
 }
 
 // Where the name begins: behind the byte order mark that some programs put before the first line.
-fn name_start(line: &[u8], is_first: bool) -> usize {
+pub fn name_start(line: &[u8], is_first: bool) -> usize {
     if is_first && begins(line, b"\xEF\xBB\xBF") {
         return 3;
     }

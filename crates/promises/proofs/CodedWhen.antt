@@ -15,7 +15,7 @@ use Rattle.laws.proofs.Members.{in-every}
 use Rattle.chars.specs.Utf8.{isText, charsOf, badPlace, failPlace}
 use Rattle.chars.specs.Letters.{white, latinEnd, latin, cyrillicFirst, cyrillicLast, cyrillic, tabled, allowed}
 use Rattle.plate.specs.Plate.{Rule, Plate}
-use Rattle.plate.specs.Read.{readPlate}
+use Rattle.plate.specs.Read.{plateIn, accepted, readPlate}
 use Rattle.plate.proofs.Packed.{Bytes}
 use Rattle.plate.proofs.Round.{plate-reads, plate-exact}
 use Rattle.branches.specs.Branches.{Branch, Use, start, step, run, over, codes}
@@ -47,6 +47,16 @@ plate-read bytes p w = subst (λ (s : List ℕ). readPlate s ≡ some p) (sym (w
 
 pub read-plate : (bytes : List ℕ) (p : Plate) → Bytes bytes → readPlate bytes ≡ some p → IsPlate p bytes
 read-plate bytes p b e = let x = plate-exact bytes p b e in (x .1, x .0)
+
+pub is-plate : (plate : List ℕ) → Bytes plate → accepted plate ≡ true → NotAPlate plate → ⊥
+is-plate plate bytes a never = never (plateIn plate) (read-plate plate (plateIn plate) bytes (ap (λ (t : Bool). cond t (some (plateIn plate)) none) a))
+
+pub no-plate : (plate : List ℕ) → accepted plate ≡ false → NotAPlate plate
+no-plate plate a p w = false≢true (ap is (sym (ap (λ (t : Bool). cond t (some (plateIn plate)) none) a) ∙ plate-read plate p w))
+  where
+    is : Option Plate → Bool
+    is (some q) = true
+    is none = false
 
 -- ---- names
 

@@ -18,23 +18,26 @@ use Rattle.rule_text.specs.Items.{Saying, Item, items}
 use Rattle.plate.specs.Plate.{Plate, goodPlate}
 use Rattle.plate.specs.Written.{plateBytes}
 use Rattle.plate.proofs.Packed.{Bytes}
+use Rattle.plate.proofs.Round.{good-is}
 use Rattle.book.specs.Book.{Book, blank, plateOf}
 use Rattle.builder.specs.Build.{enter, fault, Verdict, unless, verdict, Built, refusal, delivered, answered, nonzero, buildAnswer}
 use Rattle.builder.specs.Build.Verdict.{Faulty, Fine}
 use Rattle.builder.proofs.Goods.{build-good, build-accepted}
 use Rattle.branches.specs.Branches.{Use, start, run, code, codes}
 use Rattle.branches.specs.Choice.{Chosen, Filled, yielded, first, firsts}
+use Rattle.coder.specs.Name.{prepared}
 use Rattle.coder.specs.Answer.{joined, room, listing, listAnswer, encodeAnswer}
 use Rattle.coder.specs.Given.{usesIn}
 use Rattle.coder.proofs.Joined.{Six}
 use Rattle.coder.proofs.Demands.{some-inj, filled, gives, encodes}
+use Rattle.ward.specs.Codes.{SixDigits}
+use Rattle.ward.proofs.Digits.{yielded-six, codes-six}
 use Rattle.promises.specs.Said.{sayings, plateSaid, IsPlate}
 use Rattle.promises.specs.When.{Check, Overfull, NameNumber}
-use Rattle.promises.specs.Demands.{SixDigits, Writes, BuildGives, ListGives, EncodeGives, OnePlate}
+use Rattle.promises.specs.Demands.{Writes, BuildGives, ListGives, EncodeGives, OnePlate}
 use Rattle.promises.proofs.Said.{Holds, enter-holds}
 use Rattle.promises.proofs.CodedWhen.{plate-read, read-plate, list-checks, encode-checks}
 use Rattle.promises.proofs.Places.{each-place, code-placed, bar-placed, as-lent, as-long}
-use Rattle.promises.proofs.Digits.{yielded-six, codes-six}
 
 -- ---- build
 
@@ -160,7 +163,9 @@ module _ (plate name lent : List ℕ) (bytes : Bytes plate) where
       let p = g .0 in
       let w = read-plate plate p bytes (g .2 .read) in
       let is : listAnswer plate name lent ≡ listing (codes (usesIn p name)) lent = g .2 .written ∙ ap (λ (cs : List (List ℕ)). listing cs lent) (g .2 .all) in
-      (p, w, subst (Writes (codes (usesIn p name)) lent) (sym is) (writes (codes (usesIn p name)) lent (codes-six p name (w .0)) (room-holds lent (length (codes (usesIn p name))) (fits p w n))))
+      let six = codes-six (p .rules) (good-is p (w .0) .rules) (prepared p name) in
+      let cs = codes (usesIn p name) in
+      (p, w, subst (Writes cs lent) (sym is) (writes cs lent six (room-holds lent (length cs) (fits p w n))))
 
   -- The first alternatives are a choice.
   firsts-chosen : (us : List Use) → Filled us → Chosen us (firsts us)
@@ -179,7 +184,7 @@ module _ (plate name lent : List ℕ) (bytes : Bytes plate) where
       let w = read-plate plate p bytes (g .1) in
       let a = passed 10 (encodeAnswer plate name lent .number) (omega arith) n (encode-checks plate name lent bytes) in
       let never = name-passed name (length lent < 6) (encodeAnswer plate name lent .number) n (a .1) in
-      let six = yielded-six p name (w .0) (firsts us) (firsts-chosen us (filled plate name p (g .1))) in
+      let six = yielded-six (p .rules) (good-is p (w .0) .rules) (prepared p name) (firsts us) (firsts-chosen us (filled plate name p (g .1))) in
       let long : 7 * 1 - 1 ≤ length lent = by-lt (length lent) 6 (λ h. absurd (never h)) (λ h. omega arith) in
       (p, w, subst (Writes (yielded us (firsts us) ∷ []) lent) (sym (g .2)) (writes (yielded us (firsts us) ∷ []) lent (six, tt) long))
 

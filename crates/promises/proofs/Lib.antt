@@ -3,7 +3,6 @@ pub mod CodedWhen
 pub mod OnlyWhen
 pub mod BuiltWhen
 pub mod Places
-pub mod Digits
 pub mod Refusals
 pub mod Gives
 pub mod Matches
@@ -19,3 +18,10 @@ pub mod OrderTexts
 pub mod Order
 pub mod Latin
 pub mod Ward
+pub mod IndexCodes
+pub mod IndexEntries
+pub mod IndexRecords
+pub mod IndexAnswers
+pub mod IndexAdds
+pub mod IndexAfresh
+pub mod IndexFinds

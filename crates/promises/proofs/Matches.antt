@@ -10,6 +10,7 @@ use Rattle.laws.specs.Lists.{In}
 use Rattle.laws.specs.Arrays.{Each}
 use Rattle.plate.specs.Plate.{Plate}
 use Rattle.plate.proofs.Packed.{Bytes}
+use Rattle.plate.proofs.Round.{good-is}
 use Rattle.branches.specs.Branches.{codes}
 use Rattle.branches.specs.Choice.{yielded, firsts, Starts, Wider}
 use Rattle.branches.proofs.Choice.{chosen-listed, listed-chosen, first-listed, wider-listed, wider-first}
@@ -18,13 +19,14 @@ use Rattle.coder.specs.Walk.{uses}
 use Rattle.coder.specs.Answer.{Coded, listing, joined, listAnswer, encodeAnswer}
 use Rattle.coder.specs.Given.{usesIn}
 use Rattle.coder.proofs.Demands.{filled, gives, longer, encode-gives}
+use Rattle.ward.specs.Codes.{SixDigits}
+use Rattle.ward.proofs.Digits.{codes-six}
 use Rattle.coder.proofs.Wider.{uses-wider}
-use Rattle.promises.specs.Demands.{codeAt, SixDigits, Writes, ListsChoices, EncodesFirst, WiderPlate, PlatesKeep, GivenAgain}
+use Rattle.promises.specs.Demands.{codeAt, Writes, ListsChoices, EncodesFirst, WiderPlate, PlatesKeep, GivenAgain}
 use Rattle.promises.proofs.CodedWhen.{plate-read, read-plate}
 use Rattle.promises.proofs.Places.{in-place, place-in, so-long}
 use Rattle.promises.proofs.Gives as given
 use Rattle.promises.proofs.Gives.{six, list-gives, one-plate}
-use Rattle.promises.proofs.Digits.{codes-six}
 
 -- ---- codes at their places
 
@@ -130,7 +132,7 @@ module _ (plate name lent more : List ℕ) (bytes : Bytes plate) where
       let w = list-gives plate name more bytes (ap (λ (c : Coded). c .number) is′) in
       let counted : a .count ≡ length cs = ap (λ (c : Coded). c .count) is in
       let good = read-plate plate (g .0) bytes (g .2 .read) .0 in
-      let long = so-long cs (six cs (subst (Each SixDigits) (sym (g .2 .all)) (codes-six (g .0) name good))) in
+      let long = so-long cs (six cs (subst (Each SixDigits) (sym (g .2 .all)) (codes-six (g .0 .rules) (good-is (g .0) good .rules) (prepared (g .0) name)))) in
       let front : (l : List ℕ) → take (7 * a .count - 1) (joined cs ++ l) ≡ joined cs = λ l. take-at (joined cs) l (7 * a .count - 1) (long ∙ ap (λ (m : ℕ). 7 * m - 1) (sym counted)) in
       let count : b .count ≡ a .count = ap (λ (c : Coded). c .count) is′ ∙ sym counted in
       record {

@@ -5,11 +5,12 @@ use mathlib.Core.Logic.{inl, inr}
 use mathlib.Core.List.{List, [], _∷_, _++_, append-assoc}
 use native.Mathlib.Omega.{arith}
 use lib.ListN.{length, take, drop, getD, length-append, length-drop}
-use lib.Seq.{take-all, take-at, drop-at, drop-drop, getD-drop, getD-append-add}
+use lib.Seq.{take-all, drop-at, drop-drop, getD-drop, getD-append-add}
 use Rattle.laws.specs.Lists.{In}
 use Rattle.laws.specs.Arrays.{Each}
 use Rattle.coder.specs.Answer.{joined}
 use Rattle.coder.proofs.Joined.{Six, joined-length}
+use Rattle.ward.proofs.Front.{front, others}
 
 -- ---- members and places
 
@@ -28,19 +29,6 @@ each-place P d (y ∷ l) e zero h = e .0
 each-place P d (y ∷ l) e (suc k) h = each-place P d l (e .1) k (omega arith)
 
 -- ---- codes in front of other bytes
-
-front : (c : List ℕ) (cs : List (List ℕ)) (rest : List ℕ) → length c ≡ 6 → take 6 (joined (c ∷ cs) ++ rest) ≡ c
-unfolding joined
-front c [] rest e = take-at c rest 6 e
-front c (d ∷ cs) rest e = ap (take 6) (append-assoc c (124 ∷ joined (d ∷ cs)) rest) ∙ take-at c (124 ∷ (joined (d ∷ cs) ++ rest)) 6 e
-
--- Behind the first code and its bar stand the others.
-others : (c d : List ℕ) (cs : List (List ℕ)) (rest : List ℕ) → length c ≡ 6 → drop 7 (joined (c ∷ d ∷ cs) ++ rest) ≡ joined (d ∷ cs) ++ rest
-unfolding joined
-others c d cs rest e =
-    let seven : length (c ++ (124 ∷ [])) ≡ 7 = length-append c (124 ∷ []) ∙ omega arith in
-    ap (drop 7) (append-assoc c (124 ∷ joined (d ∷ cs)) rest ∙ sym (append-assoc c (124 ∷ []) (joined (d ∷ cs) ++ rest)))
-    ∙ drop-at (c ++ (124 ∷ [])) (joined (d ∷ cs) ++ rest) 7 seven
 
 next : (k : ℕ) (l : List ℕ) → drop (7 * suc k) l ≡ drop (7 * k) (drop 7 l)
 next k l = ap (λ (n : ℕ). drop n l) {x = 7 * suc k} {y = 7 + 7 * k} (omega arith) ∙ sym (drop-drop (7 * k) 7 l)

@@ -3,7 +3,6 @@ use Prim.Native.Nat.{ℕ, zero, suc, _+_, _-_, _*_, _<_, _≤_}
 use mathlib.Core.Path.{_≡_, refl, sym, ap, ap₂, subst, _∙_}
 use mathlib.Core.Logic.{_⊎_, inl, inr}
 use mathlib.Core.Bool.{Bool, true, false, cond, false≢true}
-use mathlib.Core.Option.{Option, none, some}
 use mathlib.Core.List.{List, [], _∷_, _++_, map, append-assoc, append-nil}
 use native.Mathlib.Omega.{arith}
 use borrow.Author.Tests.{ltb-true, ltb-false, eqb-true, eqb-false, ne-eqb}
@@ -14,38 +13,28 @@ use Rattle.laws.specs.Lists.{In, cat}
 use Rattle.laws.specs.Arrays.{Each}
 use Rattle.laws.proofs.Members.{in-either, in-every}
 use Rattle.chars.specs.Digits.{digit}
-use Rattle.plate.specs.Plate.{Plate}
-use Rattle.plate.specs.Read.{plateIn, accepted}
+use Rattle.plate.specs.Read.{accepted}
 use Rattle.plate.proofs.Packed.{Bytes}
+use Rattle.plate.proofs.Round.{good-is}
+use Rattle.coder.specs.Name.{prepared}
 use Rattle.coder.specs.Answer.{Coded, joined, listAnswer}
 use Rattle.coder.proofs.Demands.{gives}
 use Rattle.ward.specs.Ward.{Written, unwritten, written, newline, names, listBytes, lineBytes, mostNames, refusedLine, lineOf, given, line, wardAnswer}
+use Rattle.ward.specs.Codes.{SixDigits}
+use Rattle.ward.proofs.Digits.{codes-six}
 use Rattle.ward.proofs.Names.{names-closed, names-last, no-names}
 use Rattle.ward.proofs.Lines.{any-buffer, given-fits}
 use Rattle.zengilvar.specs.Numbers.{coded}
 use Rattle.zengilvar.specs.Ward.{wrote}
 use Rattle.zengilvar.specs.declared.DmCoded.{DmCoded}
 use Rattle.zengilvar.specs.declared.DmWritten.{DmWritten}
-use Rattle.promises.specs.When.{NotAPlate}
-use Rattle.promises.specs.Demands.{SixDigits}
 use Rattle.promises.specs.Ward.{Unbroken, closed, NamesAre, WardRefuses, WardExclusive, linesOf, WardWrites, WardGives, WardLists, WardAlike}
-use Rattle.promises.proofs.CodedWhen.{plate-read, read-plate}
+use Rattle.promises.proofs.CodedWhen.{read-plate, is-plate, no-plate}
 use Rattle.promises.proofs.OnlyWhen.{check-only}
 use Rattle.promises.proofs.Places.{so-long}
 use Rattle.promises.proofs.Gives.{six}
-use Rattle.promises.proofs.Digits.{codes-six}
 
 -- ---- when each number comes back
-
-is-plate : (plate : List ℕ) → Bytes plate → accepted plate ≡ true → NotAPlate plate → ⊥
-is-plate plate bytes a never = never (plateIn plate) (read-plate plate (plateIn plate) bytes (ap (λ (t : Bool). cond t (some (plateIn plate)) none) a))
-
-no-plate : (plate : List ℕ) → accepted plate ≡ false → NotAPlate plate
-no-plate plate a p w = false≢true (ap is (sym (ap (λ (t : Bool). cond t (some (plateIn plate)) none) a) ∙ plate-read plate p w))
-  where
-    is : Option Plate → Bool
-    is (some q) = true
-    is none = false
 
 module _ (plate buffer lent : List ℕ) where
   abbrev ns : List (List ℕ)
@@ -127,7 +116,7 @@ line-unbroken plate name lent bytes = go (listAnswer plate name lent .number) re
     go zero e =
         let g = gives plate name lent e in
         let good = read-plate plate (g .0) bytes (g .2 .read) .0 in
-        let digits = subst (Each SixDigits) (sym (g .2 .all)) (codes-six (g .0) name good) in
+        let digits = subst (Each SixDigits) (sym (g .2 .all)) (codes-six (g .0 .rules) (good-is (g .0) good .rules) (prepared (g .0) name)) in
         let cs = g .1 in
         subst Unbroken (sym (ap lineOf (g .2 .written) ∙ take-at (joined cs) (drop (length (joined cs)) lent) (7 * length cs - 1) (so-long cs (six cs digits)))) (joined-unbroken cs digits)
     go (suc n) e = subst Unbroken (refused (listAnswer plate name lent) n e) (refusal-unbroken (listAnswer plate name lent .number))

@@ -5,8 +5,7 @@ use mathlib.Core.Path.{_≡_}
 use mathlib.Core.Bool.{Bool, true}
 use mathlib.Core.List.{List, [], _∷_, _++_}
 use lib.ListN.{length, take, drop, getD}
-use Rattle.laws.specs.Lists.{In, every}
-use Rattle.chars.specs.Digits.{digit}
+use Rattle.laws.specs.Lists.{In}
 use Rattle.plate.specs.Plate.{Plate, goodPlate}
 use Rattle.plate.specs.Written.{plateBytes}
 use Rattle.builder.specs.Build.{Built}
@@ -15,6 +14,7 @@ use Rattle.branches.specs.Choice.{Chosen, yielded, firsts}
 use Rattle.coder.specs.Answer.{Coded}
 use Rattle.coder.specs.Given.{usesIn}
 use Rattle.coder.specs.Wider.{WiderRules}
+use Rattle.ward.specs.Codes.{SixDigits}
 use Rattle.promises.specs.Said.{saidBy, rulesOf, foldingsOf, plateSaid, IsPlate}
 use Rattle.promises.specs.When.{BuildNumber, ListNumber, EncodeNumber}
 
@@ -57,9 +57,6 @@ BuildGives text flag lent a = a .number ≡ 0 → WritesPlate (plateSaid flag te
 -- "code number k, from 0, is lent the buffer from byte 7k on"
 abbrev pub codeAt : Coded → ℕ → List ℕ
 codeAt a k = take 6 (drop (7 * k) (a .buffer))
-
-abbrev pub SixDigits : List ℕ → Type 0
-SixDigits c = (length c ≡ 6) × (every digit c ≡ true)
 
 -- These codes are written, and nothing else: each at its place, six ASCII digits; a bar between two; the bytes behind them as lent.
 pub record Writes (cs : List (List ℕ)) (lent : List ℕ) (a : Coded) : Type 0 where

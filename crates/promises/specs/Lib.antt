@@ -14,3 +14,5 @@ pub mod Order
 pub mod Latin
 pub mod Cyrillic
 pub mod Ward
+pub mod Index
+pub mod IndexCases

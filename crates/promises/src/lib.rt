@@ -14,6 +14,7 @@ use zengilvar::dm_encode;
 use zengilvar::dm_list;
 
 mod ward_list; // ward_list.rt: M-103, a whole ward list in one call
+mod code_index; // code_index.rt: M-108, a code index beside it
 
 // Demands 1 and 2, of build.
 fn builds(text: &[u8], folding: bool, plate: &mut [u8]) -> DmBuilt

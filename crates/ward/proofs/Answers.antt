@@ -13,18 +13,18 @@ use Rattle.coder.specs.Answer.{smaller}
 use Rattle.ward.specs.Ward.{Written, unwritten, written, names, line, mostNames, lineBytes, wardAnswer}
 use Rattle.ward.specs.Puts.{Puts}
 
--- A count that stops at 257.
-pub many : (n m : ℕ) → n ≡ smaller (mostNames + 1) m → mostNames < n → mostNames < m
-many n m e h = go (leb 257 m) refl e
+-- A count that stops at one over the most.
+pub many : (most n m : ℕ) → n ≡ smaller (most + 1) m → most < n → most < m
+many most n m e h = go (leb (most + 1) m) refl e
   where
-    go : (t : Bool) → leb 257 m ≡ t → n ≡ cond t 257 m → mostNames < m
-    go true l f = let k = leb-true 257 m l in omega arith
+    go : (t : Bool) → leb (most + 1) m ≡ t → n ≡ cond t (most + 1) m → most < m
+    go true l f = let k = leb-true (most + 1) m l in omega arith
     go false l f = omega arith
 
-pub exact : (n m : ℕ) → n ≡ smaller (mostNames + 1) m → n ≤ mostNames → n ≡ m
-exact n m e h = go (leb 257 m) e
+pub exact : (most n m : ℕ) → n ≡ smaller (most + 1) m → n ≤ most → n ≡ m
+exact most n m e h = go (leb (most + 1) m) e
   where
-    go : (t : Bool) → n ≡ cond t 257 m → n ≡ m
+    go : (t : Bool) → n ≡ cond t (most + 1) m → n ≡ m
     go true f = absurd (omega arith)
     go false f = f
 
@@ -41,11 +41,11 @@ module _ (plate bytes lent : List ℕ) where
     pub many-names : mostNames < n → unwritten 1 lent ≡ wardAnswer plate bytes lent
     unfolding wardAnswer
     many-names h =
-        ap₂ (λ (t u : Bool). judged t u (ltb (length lent) (lineBytes * length (names bytes)))) (sym a) (sym (lt-ltb mostNames (length (names bytes)) (many n (length (names bytes)) e h)))
+        ap₂ (λ (t u : Bool). judged t u (ltb (length lent) (lineBytes * length (names bytes)))) (sym a) (sym (lt-ltb mostNames (length (names bytes)) (many mostNames n (length (names bytes)) e h)))
 
     module _ (h : n ≤ mostNames) where
       few : ltb mostNames (length (names bytes)) ≡ false
-      few = let k = exact n (length (names bytes)) e h in le-ltb mostNames (length (names bytes)) (omega arith)
+      few = let k = exact mostNames n (length (names bytes)) e h in le-ltb mostNames (length (names bytes)) (omega arith)
 
       by-room : (t : Bool) → ltb (length lent) (lineBytes * length (names bytes)) ≡ t → judged true false t ≡ wardAnswer plate bytes lent
       unfolding wardAnswer
@@ -53,10 +53,10 @@ module _ (plate bytes lent : List ℕ) where
           ap (λ (x : Bool). judged x false t) (sym a) ∙ ap₂ (λ (x y : Bool). judged (accepted plate) x y) (sym few) (sym f)
 
       pub too-small : length lent < lineBytes * n → unwritten 12 lent ≡ wardAnswer plate bytes lent
-      too-small r = let k = exact n (length (names bytes)) e h in by-room true (lt-ltb (length lent) (lineBytes * length (names bytes)) (omega arith))
+      too-small r = let k = exact mostNames n (length (names bytes)) e h in by-room true (lt-ltb (length lent) (lineBytes * length (names bytes)) (omega arith))
 
       pub room-for : lineBytes * n ≤ length lent → lineBytes * length (names bytes) ≤ length lent
-      room-for r = let k = exact n (length (names bytes)) e h in omega arith
+      room-for r = let k = exact mostNames n (length (names bytes)) e h in omega arith
 
       pub all-written : lineBytes * n ≤ length lent → (m : ℕ) (out : List ℕ) → Puts (cat (line plate) (names bytes)) m lent out
           → record { number = 0; length = m; buffer = out } ≡ wardAnswer plate bytes lent

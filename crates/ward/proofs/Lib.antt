@@ -1,4 +1,6 @@
 pub mod Names
+pub mod Front
+pub mod Digits
 pub mod Lines
 pub mod Putting
 pub mod Answers

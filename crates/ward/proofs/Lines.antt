@@ -13,7 +13,7 @@ use lib.Seq.{take-all, take-at}
 use Rattle.laws.specs.Lists.{In, same}
 use Rattle.laws.proofs.Once.{once-short}
 use Rattle.laws.proofs.Tests.{by-test}
-use Rattle.plate.specs.Plate.{Rule, Plate}
+use Rattle.plate.specs.Plate.{Plate}
 use Rattle.plate.specs.Read.{readPlate}
 use Rattle.branches.specs.Branches.{Branch, Use, endsWith, extend, start, run, over, code, codes}
 use Rattle.branches.specs.Choice.{follow, yielded}
@@ -49,8 +49,8 @@ yielded-long us choice =
     ∙ ap (λ (m : ℕ). length (b .digits) + m) (length-replicate (6 - length (b .digits)) 48)
     ∙ omega arith
 
-codes-six : (us : List Use) → Six (codes us)
-codes-six us = all (codes us) (λ k h. let r = listed-chosen us k h in ap length (r .2) ∙ yielded-long us (r .0))
+pub codes-long : (us : List Use) → Six (codes us)
+codes-long us = all (codes us) (λ k h. let r = listed-chosen us k h in ap length (r .2) ∙ yielded-long us (r .0))
   where
     all : (l : List (List ℕ)) → ((k : List ℕ) → In k l → length k ≡ 6) → Six l
     all [] h = tt
@@ -60,22 +60,22 @@ codes-six us = all (codes us) (λ k h. let r = listed-chosen us k h in ap length
 joined-long : (us : List Use) → length (joined (codes us)) ≡ 7 * length (codes us) - 1
 joined-long us =
     let cs = codes us in
-    ap (λ (l : List (List ℕ)). length (joined l)) (sym (take-all (length cs) cs (omega arith))) ∙ joined-length cs (codes-six us) (length cs) [] (omega arith)
+    ap (λ (l : List (List ℕ)). length (joined l)) (sym (take-all (length cs) cs (omega arith))) ∙ joined-length cs (codes-long us) (length cs) [] (omega arith)
 
 -- ---- what list answers for a name, whatever is lent: a refusal, or what it lists
 
-by-answer : (P : (List ℕ → Coded) → Type 0) → ((number place : ℕ) → P (noCodesAt number place)) → ((us : List Use) → P (listed us)) → (plate name : List ℕ)
-    → P (listAnswer plate name)
+pub by-answer : (plate name : List ℕ) (P : (List ℕ → Coded) → Type 0) → ((number place : ℕ) → P (noCodesAt number place))
+    → ((p : Plate) → readPlate plate ≡ some p → (cs : List ℕ) → P (listed (uses (p .rules) cs))) → P (listAnswer plate name)
 unfolding listAnswer
-by-answer P refuses lists plate name = by-plate (readPlate plate)
+by-answer plate name P refuses lists = by-plate (readPlate plate) refl
   where
-    by-name : (rs : List Rule) (n : Named) → P (answered listed rs n)
-    by-name rs (Refused number place) = refuses number place
-    by-name rs (Chars cs) = lists (uses rs cs)
+    by-name : (p : Plate) → readPlate plate ≡ some p → (n : Named) → P (answered listed (p .rules) n)
+    by-name p e (Refused number place) = refuses number place
+    by-name p e (Chars cs) = lists p e cs
 
-    by-plate : (o : Option Plate) → P (plated listed o name)
-    by-plate none = refuses 10 0
-    by-plate (some p) = by-name (p .rules) (named p name)
+    by-plate : (o : Option Plate) → readPlate plate ≡ o → P (plated listed o name)
+    by-plate none e = refuses 10 0
+    by-plate (some p) e = by-name p e (named p name)
 
 -- The line of what it lists: its codes, or that there is no room.
 listed-line : (us : List Use) (lent : List ℕ) → lineOf (listed us lent) ≡ cond (over (room lent) us start) (refusedLine 12) (joined (codes us))
@@ -87,21 +87,22 @@ listed-line us lent = go (over (room lent) us start)
 
 -- ---- the buffer does not matter
 
-same-room : (lent lent′ : List ℕ) → length lent ≡ length lent′ → room lent ≡ room lent′
+pub same-room : (lent lent′ : List ℕ) → length lent ≡ length lent′ → room lent ≡ room lent′
 unfolding room
 same-room lent lent′ e = ap (λ (n : ℕ). smaller 64 ((n + 1) / 7)) e
 
 pub any-buffer : (plate name lent lent′ : List ℕ) → length lent ≡ length lent′ → lineOf (listAnswer plate name lent) ≡ lineOf (listAnswer plate name lent′)
 any-buffer plate name lent lent′ e =
-    by-answer (λ (f : List ℕ → Coded). lineOf (f lent) ≡ lineOf (f lent′)) (λ number place. refl)
-    (λ us. listed-line us lent ∙ ap (λ (n : ℕ). cond (over n us start) (refusedLine 12) (joined (codes us))) (same-room lent lent′ e) ∙ sym (listed-line us lent′))
-    plate name
+    by-answer plate name (λ (f : List ℕ → Coded). lineOf (f lent) ≡ lineOf (f lent′)) (λ number place. refl) (λ p read cs. go (uses (p .rules) cs))
+  where
+    go : (us : List Use) → lineOf (listed us lent) ≡ lineOf (listed us lent′)
+    go us = listed-line us lent ∙ ap (λ (n : ℕ). cond (over n us start) (refusedLine 12) (joined (codes us))) (same-room lent lent′ e) ∙ sym (listed-line us lent′)
 
 -- Where list refuses, every byte is as lent.
 pub refused-lent : (plate name lent : List ℕ) → (listAnswer plate name lent .number ≡ 0 → ⊥) → listAnswer plate name lent .buffer ≡ lent
 refused-lent plate name lent =
-    by-answer (λ (f : List ℕ → Coded). (f lent .number ≡ 0 → ⊥) → f lent .buffer ≡ lent) (λ number place h. refl)
-    (λ us h. go us (over (room lent) us start) h) plate name
+    by-answer plate name (λ (f : List ℕ → Coded). (f lent .number ≡ 0 → ⊥) → f lent .buffer ≡ lent) (λ number place h. refl)
+    (λ p read cs h. let us = uses (p .rules) cs in go us (over (room lent) us start) h)
   where
     go : (us : List Use) (t : Bool) → (cond t (noCodes 12 lent) (listing (codes us) lent) .number ≡ 0 → ⊥) → cond t (noCodes 12 lent) (listing (codes us) lent) .buffer ≡ lent
     go us true h = refl
@@ -112,8 +113,8 @@ refused-lent plate name lent =
 -- Where list gives codes, their line stands in front of what it leaves, and behind it what was lent.
 pub codes-stand : (plate name lent : List ℕ) → let a = listAnswer plate name lent in a .number ≡ 0 → Puts (lineOf a) (7 * a .count - 1) lent (a .buffer)
 codes-stand plate name lent =
-    by-answer (λ (f : List ℕ → Coded). f lent .number ≡ 0 → Puts (lineOf (f lent)) (7 * f lent .count - 1) lent (f lent .buffer)) none-stand
-    (λ us. some-stand us (over (room lent) us start)) plate name
+    by-answer plate name (λ (f : List ℕ → Coded). f lent .number ≡ 0 → Puts (lineOf (f lent)) (7 * f lent .count - 1) lent (f lent .buffer)) none-stand
+    (λ p read cs. let us = uses (p .rules) cs in some-stand us (over (room lent) us start))
   where
     none-stand : (number place : ℕ) → number ≡ 0 → Puts (lineOf (noCodesAt number place lent)) 0 lent lent
     none-stand number place e = subst (λ (l : List ℕ). Puts l 0 lent lent) (ap (λ (t : Bool). cond t [] (refusedLine number)) (sym (eq-eqb number 0 e))) (record { count = refl; is = refl })
@@ -126,7 +127,7 @@ codes-stand plate name lent =
         (sym (take-at cs (drop (length cs) lent) (7 * length (codes us) - 1) (joined-long us))) (record { count = sym (joined-long us); is = refl })
 
 -- Room for 64 codes: no list has more branches, so none has more codes.
-few-codes : (us : List Use) (lent : List ℕ) → length lent ≡ listBytes → over (room lent) us start ≡ false → length (codes us) ≤ 64
+pub few-codes : (us : List Use) (lent : List ℕ) → length lent ≡ listBytes → over (room lent) us start ≡ false → length (codes us) ≤ 64
 unfolding room
 few-codes us lent e o =
     let n = run-fits (room lent) us start o in
@@ -137,12 +138,15 @@ few-codes us lent e o =
 
 pub given-fits : (plate name lent : List ℕ) → length lent ≡ listBytes → length (lineOf (listAnswer plate name lent)) ≤ listBytes
 given-fits plate name lent e =
-    by-answer (λ (f : List ℕ → Coded). length (lineOf (f lent)) ≤ listBytes)
+    by-answer plate name (λ (f : List ℕ → Coded). length (lineOf (f lent)) ≤ listBytes)
     (λ number place. by-test (λ (l : List ℕ). length l ≤ listBytes) (eqb number 0) [] (refusedLine number) (λ t. omega arith) (λ t. omega arith))
-    (λ us. subst (λ (l : List ℕ). length l ≤ listBytes) (sym (listed-line us lent))
-    (by-test (λ (l : List ℕ). length l ≤ listBytes) (over (room lent) us start) (refusedLine 12) (joined (codes us)) (λ t. omega arith)
-    (λ t. let n = joined-long us in let m = few-codes us lent e t in omega arith)))
-    plate name
+    (λ p read cs. go (uses (p .rules) cs))
+  where
+    go : (us : List Use) → length (lineOf (listed us lent)) ≤ listBytes
+    go us =
+        subst (λ (l : List ℕ). length l ≤ listBytes) (sym (listed-line us lent))
+        (by-test (λ (l : List ℕ). length l ≤ listBytes) (over (room lent) us start) (refusedLine 12) (joined (codes us)) (λ t. omega arith)
+        (λ t. let n = joined-long us in let m = few-codes us lent e t in omega arith))
 
 -- A name that is not refused has a code.
 pub some-code : (plate name lent : List ℕ) → listAnswer plate name lent .number ≡ 0 → 1 ≤ listAnswer plate name lent .count

@@ -1,9 +1,13 @@
--- Only one answer and one buffer satisfy the promise of `ward`: what is told says both. Assumes nothing.
-use Prim.Native.Nat.{ℕ}
+-- Only one answer and one buffer satisfy the promise of `ward`: what is told says both; and only one number the promises of `names`. Assumes nothing.
+use Prim.Native.Nat.{ℕ, _+_, _≤_}
 use mathlib.Core.Path.{_≡_, refl, sym, ap, _∙_}
 use mathlib.Core.Bool.{cond}
 use mathlib.Core.List.{List}
 use lib.Dec.{eqb}
+use lib.ListN.{length, drop}
+use Rattle.laws.specs.Lists.{until}
+use Rattle.laws.proofs.Only.{only}
+use Rattle.coder.specs.Answer.{smaller}
 use Rattle.ward.specs.Ward as wanted
 use Rattle.ward.specs.Outcome.{told}
 use Rattle.ward.specs.declared.Warded.{Warded}
@@ -31,3 +35,10 @@ ward plate bytes lent r r′ out out′ e f = (
   sym (told-answer r out) ∙ ap (λ (x : wanted.Written). answerOf (x .number) (x .length)) (e ∙ sym f) ∙ told-answer r′ out′,
   sym (told-buffer r out) ∙ ap (λ (x : wanted.Written). x .buffer) (e ∙ sym f) ∙ told-buffer r′ out′,
 )
+
+pub name-end : (bytes : List ℕ) (from r r′ : ℕ) → (r ≡ from + until wanted.newline (drop from bytes)) × (r ≤ length bytes)
+    → (r′ ≡ from + until wanted.newline (drop from bytes)) × (r′ ≤ length bytes) → r ≡ r′
+name-end bytes from r r′ e f = only (e .0) (f .0)
+
+pub count-names : (bytes : List ℕ) (most r r′ : ℕ) → r ≡ smaller (most + 1) (length (wanted.names bytes)) → r′ ≡ smaller (most + 1) (length (wanted.names bytes)) → r ≡ r′
+count-names bytes most r r′ e f = only e f

@@ -1,3 +1,4 @@
 pub mod Ward
+pub mod Codes
 pub mod Puts
 pub mod Outcome

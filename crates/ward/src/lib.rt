@@ -1,26 +1,28 @@
 // A whole ward list in one call: the plate is accepted once, then a line is written for each name. 02, M-103.
 ghost use mathlib.Core.Path.{_≡_};
 ghost use mathlib.Core.Bool.{true};
-ghost use Prim.Native.Nat.{_+_, _*_, _≤_, _<_};
-ghost use lib.ListN.{length, drop};
-ghost use Rattle.laws.specs.Lists.{until, cat};
+ghost use Prim.Native.Nat.{_*_, _≤_, _<_};
+ghost use lib.ListN.{length};
+ghost use Rattle.laws.specs.Lists.{cat};
 ghost use Rattle.plate.specs.Read.{accepted};
 ghost use Rattle.plate.specs.Noted.{Noted};
-ghost use Rattle.coder.specs.Answer.{smaller};
-ghost use Rattle.ward.specs.Ward.{newline, names, refusedLine, given, line, lineBytes, mostNames, wardAnswer};
+ghost use Rattle.ward.specs.Ward.{names, refusedLine, given, line, lineBytes, wardAnswer};
 ghost use Rattle.ward.specs.Puts.{Puts};
 ghost use Rattle.ward.specs.Outcome.{told};
-use chars::scan::count_until;
 use coder::Coded;
 use coder::answer::code_accepted;
 use plate::MOST_RULES;
 use plate::NOTED;
 use plate::accept::accept_noting;
+use split::count_names;
+use split::name_end;
+
+pub mod split; // split.rt: the names of a buffer
 
 const MOST_NAMES: usize = 256;
 
 // What list is lent for a name, and what a line takes at most with its newline.
-const LIST_BYTES: usize = 447;
+pub const LIST_BYTES: usize = 447;
 
 const LINE_BYTES: usize = 448;
 
@@ -30,30 +32,6 @@ pub enum Warded {
     NotAPlate,
     ManyNames,
     RoomTooSmall,
-}
-
-// Where the name that begins at a place ends: at its newline, or at the end.
-fn name_end(bytes: &[u8], from: usize) -> usize
-    requires { ⌜ from ≤ length (now bytes) ⌝ }
-    ensures { λ r. ⌜ (r ≡ from + until newline (drop from (now (bytes .entry)))) × (r ≤ length (now (bytes .entry))) ⌝ }
-{
-    from + count_until(&bytes[from..], b'\n')
-}
-
-// How many names there are; 257 stand for more.
-fn count_names(bytes: &[u8]) -> usize
-    ensures { λ r. ⌜ r ≡ smaller (mostNames + 1) (length (names (now (bytes .entry)))) ⌝ }
-{
-    let mut n: usize = 0;
-    let mut at: usize = 0;
-    while at < bytes.len() {
-        n += 1;
-        if MOST_NAMES < n {
-            return n;
-        }
-        at = name_end(bytes, at) + 1;
-    }
-    n
 }
 
 // `!` and a refusal in two digits, to the front of a line; how many bytes.
@@ -116,7 +94,7 @@ pub fn ward(plate: &[u8], bytes: &[u8], out: &mut [u8]) -> Warded
     if !accept_noting(plate, &mut places, &mut groups) {
         return Warded::NotAPlate;
     }
-    let n = count_names(bytes);
+    let n = count_names(bytes, MOST_NAMES);
     if MOST_NAMES < n {
         return Warded::ManyNames;
     }

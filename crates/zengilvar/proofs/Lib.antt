@@ -1,3 +1,4 @@
 pub mod Only
 pub mod OnlyIsPlate
 pub mod OnlyWard
+pub mod OnlyIndex

@@ -1,4 +1,4 @@
-// The library that C and Rust link: build, encode, list and ward with 01's numbers in place of enums, which C does not have. include/zengilvar.h declares it.
+// The library that C and Rust link: build, encode, list, ward and the index with 01's numbers in place of enums, which C does not have. include/zengilvar.h declares it.
 ghost use Rattle.builder.specs.Build.{buildAnswer};
 ghost use Rattle.coder.specs.Answer.{listAnswer, encodeAnswer};
 ghost use Rattle.builder.specs.Survey.{faultNumber};
@@ -19,6 +19,7 @@ use coder::answer::list;
 
 pub mod is_plate; // is_plate.rt: whether bytes are a plate
 pub mod ward_list; // ward_list.rt: a line for each name of a list
+pub mod code_index; // code_index.rt: index and report of names, and who shares a code
 
 // What dm_build answers.
 #[repr(C)]
@@ -36,7 +37,15 @@ pub struct DmCoded {
     pub place: u64,
 }
 
-// What dm_ward answers.
+// What dm_index_make and dm_index_add answer.
+#[repr(C)]
+pub struct DmIndexed {
+    pub number: u64,
+    pub index_length: u64,
+    pub report_length: u64,
+}
+
+// What dm_ward and dm_index_find answer.
 #[repr(C)]
 pub struct DmWritten {
     pub number: u64,

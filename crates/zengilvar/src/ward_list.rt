@@ -9,7 +9,7 @@ use super::DmWritten;
 use ward::Warded;
 use ward::ward;
 
-fn written_refusal(number: u64) -> DmWritten
+pub(crate) fn written_refusal(number: u64) -> DmWritten
     ensures { λ r. ⌜ r ≡ record { number = number; length = 0 } ⌝ }
 {
     DmWritten {

@@ -6,6 +6,7 @@
 //! `bench [SECONDS]`: how long each figure is measured (0.2). Run it in release.
 //! `bench once [WHAT]`: no clock; the surnames once by one side, for a tool that counts instructions (../instructions).
 
+mod indexes;
 mod stack;
 
 use judge::answers::Call;
@@ -14,7 +15,7 @@ use judge::{made, plate, text, Content, SMALL, STANDARD};
 use oracle::Coder;
 use std::hint::black_box;
 use std::time::{Duration, Instant};
-use zengilvar::{raw, LINE_ROOM, LONGEST_LIST, LONGEST_PLATE};
+use zengilvar::{raw, LINE_ROOM, LONGEST_FOUND, LONGEST_INDEX, LONGEST_LIST, LONGEST_PLATE, MOST_RECORDS};
 
 /// How many times a figure is taken; the least of them is told.
 const TURNS: usize = 20;
@@ -170,6 +171,8 @@ fn once(what: Option<&str>, rules: &Rules, names: &[String]) {
         (Some("encode"), _) => here(Call::Encode, rules, names)(),
         (Some("accept"), _) => here(Call::Encode, rules, &empty)(),
         (Some("ward"), _) => wards(rules, &lists(names))(),
+        (Some("index"), _) => indexes::made_once(rules, names),
+        (Some("index-and-find"), _) => indexes::found_once(rules, names),
         (Some("rust-list"), Some(coder)) => there(Call::List, coder, names)(),
         (Some("rust-encode"), Some(coder)) => there(Call::Encode, coder, names)(),
         (Some(what), _) => panic!("nothing is called {what}, or the crate's source is missing"),
@@ -243,12 +246,23 @@ fn main() {
         both(seconds, &format!("{} branches, {} bytes", 1 << pairs, 2 * pairs), Call::List, &small, &name);
     }
 
+    println!("\n| an index of 4,096 names | time |\n|---|---|");
+    let many: Vec<String> = (0..MOST_RECORDS).map(|_| made::surname(&mut random)).collect();
+    indexes::tell(seconds, "made surnames, standard rules", &standard, &many);
+    let most = from_text("64 codes a name", indexes::FULL_RULES);
+    indexes::tell(seconds, "64 codes a name", &most, &indexes::full_names());
+
     println!("\n| deepest stack | bytes |\n|---|---|");
     let mut out = vec![0; LONGEST_PLATE];
     let full_plate = &plates[5].plate;
     let long = "ca".repeat(6) + &"r".repeat(244);
     stack::tell("build, standard rules", || {
         raw::build(STANDARD.as_bytes(), true, &mut out);
+    });
+    let full = indexes::full_names().join("\n");
+    let (mut index, mut report) = (vec![0; LONGEST_INDEX], vec![0; MOST_RECORDS]);
+    stack::tell("index of 4,096 names made, 64 codes a name", || {
+        raw::index_make(&most.plate, full.as_bytes(), &mut index, &mut report);
     });
     for (words, plate) in [("small text S", &small.plate), ("the longest plate", full_plate)] {
         stack::tell(&format!("encode, 256 bytes, {words}"), || {
@@ -259,6 +273,15 @@ fn main() {
         });
         stack::tell(&format!("ward of one such name, {words}"), || {
             raw::ward(plate, long.as_bytes(), &mut out);
+        });
+        stack::tell(&format!("index of one such name made, {words}"), || {
+            raw::index_make(plate, long.as_bytes(), &mut out, &mut [0]);
+        });
+        stack::tell(&format!("such a name added, {words}"), || {
+            raw::index_add(plate, long.as_bytes(), &mut out, 0, &mut [0], 0);
+        });
+        stack::tell(&format!("such a name looked up, {words}"), || {
+            raw::index_find(plate, &[], long.as_bytes(), &mut out[..LONGEST_FOUND]);
         });
     }
 }

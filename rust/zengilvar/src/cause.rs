@@ -18,12 +18,13 @@ pub enum Cause {
     NotAPlate,
     CharacterNotAllowed,
     RoomTooSmall,
+    NotAnIndex,
     /// A number that this wrapper does not know.
     Other(u64),
 }
 
 /// Each cause with its number and its words, which are those of the header's `dm_words`.
-const CAUSES: [(Cause, u64, &str); 12] = [
+const CAUSES: [(Cause, u64, &str); 13] = [
     (Cause::TooLong, 1, "the rule text has over 65,536 bytes, the name over 256, or the list over 256 names"),
     (Cause::NotText, 2, "not UTF-8, or a zero byte in rule text"),
     (Cause::NotRecognised, 3, "no rule, folding, comment or empty line"),
@@ -32,10 +33,11 @@ const CAUSES: [(Cause, u64, &str); 12] = [
     (Cause::ManyAlternatives, 6, "a field with over 8 alternatives"),
     (Cause::NotDigits, 7, "an alternative that is not 0 to 6 digits"),
     (Cause::TooMany, 8, "over 1,500 rules, or over 128 folded characters"),
-    (Cause::ShortBuffer, 9, "the buffer is shorter than the plate"),
+    (Cause::ShortBuffer, 9, "the buffer is shorter than the plate, or than the records found"),
     (Cause::NotAPlate, 10, "the plate is damaged or no plate"),
     (Cause::CharacterNotAllowed, 11, "a character that is neither white space nor below U+0180 nor U+0400 to U+045F"),
     (Cause::RoomTooSmall, 12, "the buffer is too small for the codes, or the name has over 64 codes at some step"),
+    (Cause::NotAnIndex, 18, "no index, over 4,096 names in one, or no room for its entries or its report"),
 ];
 
 impl Cause {

@@ -28,11 +28,11 @@ pub struct ParseError {
 pub enum PhoneticError {
     /// The rule text is refused.
     ParseRuleError(ParseError),
-    /// The name is refused, or the plate.
+    /// The name is refused, or the plate, or the index.
     Refused(Refusal),
 }
 
-/// A name or a plate that is refused.
+/// A name, a plate or an index that is refused.
 #[derive(Debug, Clone, Copy, PartialEq, Eq, PartialOrd, Ord, Hash)]
 #[non_exhaustive]
 pub struct Refusal {
@@ -48,8 +48,8 @@ impl Refusal {
         Self { cause: Cause::NotAPlate, place: None }
     }
 
-    /// Of a list of names, or of a name in one: a line does not tell the place.
-    pub(crate) fn of_ward(cause: Cause) -> Self {
+    /// Of a list of names, of a name in one, or of an index: they do not tell the place.
+    pub(crate) fn without_place(cause: Cause) -> Self {
         Self { cause, place: None }
     }
 

@@ -22,6 +22,7 @@ mod cause;
 mod daitch_mokotoff;
 mod encoder;
 mod error;
+mod index;
 pub mod raw;
 mod ward;
 
@@ -29,6 +30,7 @@ pub use cause::Cause;
 pub use daitch_mokotoff::{DaitchMokotoffSoundex, DaitchMokotoffSoundexBuilder};
 pub use encoder::Encoder;
 pub use error::{ParseError, PhoneticError, Refusal};
+pub use index::Index;
 pub use ward::Ward;
 
 /// The longest rule text, in bytes.
@@ -51,3 +53,12 @@ pub const MOST_NAMES: usize = 256;
 
 /// What `raw::ward` must be lent for each name, in bytes: the longest list and a newline.
 pub const LINE_ROOM: usize = 448;
+
+/// The most names of one index, which are its records.
+pub const MOST_RECORDS: usize = 4_096;
+
+/// The longest index, in bytes: 64 codes for each of the most names, four bytes an entry.
+pub const LONGEST_INDEX: usize = 1_048_576;
+
+/// The longest answer of `raw::index_find`, in bytes: all records, two bytes each.
+pub const LONGEST_FOUND: usize = 8_192;

@@ -18,7 +18,7 @@ impl Ward {
         let mut lines = vec![0; count * LINE_ROOM];
         let written = raw::ward(plate, names, &mut lines);
         if written.number != 0 {
-            return Err(PhoneticError::Refused(Refusal::of_ward(Cause::of(written.number))));
+            return Err(PhoneticError::Refused(Refusal::without_place(Cause::of(written.number))));
         }
         lines.truncate(written.length as usize);
         Ok(Self { lines, at: 0, left: count })
@@ -46,7 +46,7 @@ impl ExactSizeIterator for Ward {}
 impl std::iter::FusedIterator for Ward {}
 
 /// How many names there are: those that a newline closes, and a last one if it is not empty.
-fn count(names: &[u8]) -> usize {
+pub(crate) fn count(names: &[u8]) -> usize {
     let closed = names.iter().filter(|byte| **byte == b'\n').count();
     closed + usize::from(names.last().is_some_and(|last| *last != b'\n'))
 }
@@ -56,7 +56,7 @@ fn line(line: &[u8]) -> Result<String, PhoneticError> {
     match line {
         [b'!', tens, ones] => {
             let number = u64::from(tens - b'0') * 10 + u64::from(ones - b'0');
-            Err(PhoneticError::Refused(Refusal::of_ward(Cause::of(number))))
+            Err(PhoneticError::Refused(Refusal::without_place(Cause::of(number))))
         }
         codes => Ok(String::from_utf8_lossy(codes).into_owned()),
     }

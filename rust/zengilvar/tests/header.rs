@@ -2,7 +2,8 @@
 
 use std::mem::{offset_of, size_of};
 use zengilvar::{
-    raw, Cause, LINE_ROOM, LONGEST_LIST, LONGEST_NAME, LONGEST_PLATE, LONGEST_PLATE_1, LONGEST_TEXT, MOST_NAMES,
+    raw, Cause, LINE_ROOM, LONGEST_FOUND, LONGEST_INDEX, LONGEST_LIST, LONGEST_NAME, LONGEST_PLATE, LONGEST_PLATE_1,
+    LONGEST_TEXT, MOST_NAMES, MOST_RECORDS,
 };
 
 const HEADER: &str = include_str!("../../../include/zengilvar.h");
@@ -18,7 +19,7 @@ fn defined(name: &str) -> usize {
 }
 
 /// Every cause, its number, the header's name of it, and its words.
-const CAUSES: [(Cause, u64, &str, &str); 12] = [
+const CAUSES: [(Cause, u64, &str, &str); 13] = [
     (Cause::TooLong, 1, "TOO_LONG", "the rule text has over 65,536 bytes, the name over 256, or the list over 256 names"),
     (Cause::NotText, 2, "NOT_TEXT", "not UTF-8, or a zero byte in rule text"),
     (Cause::NotRecognised, 3, "NOT_RECOGNISED", "no rule, folding, comment or empty line"),
@@ -27,7 +28,7 @@ const CAUSES: [(Cause, u64, &str, &str); 12] = [
     (Cause::ManyAlternatives, 6, "MANY_ALTERNATIVES", "a field with over 8 alternatives"),
     (Cause::NotDigits, 7, "NOT_DIGITS", "an alternative that is not 0 to 6 digits"),
     (Cause::TooMany, 8, "TOO_MANY", "over 1,500 rules, or over 128 folded characters"),
-    (Cause::ShortBuffer, 9, "SHORT_BUFFER", "the buffer is shorter than the plate"),
+    (Cause::ShortBuffer, 9, "SHORT_BUFFER", "the buffer is shorter than the plate, or than the records found"),
     (Cause::NotAPlate, 10, "NOT_A_PLATE", "the plate is damaged or no plate"),
     (
         Cause::CharacterNotAllowed,
@@ -40,6 +41,12 @@ const CAUSES: [(Cause, u64, &str, &str); 12] = [
         12,
         "ROOM_TOO_SMALL",
         "the buffer is too small for the codes, or the name has over 64 codes at some step",
+    ),
+    (
+        Cause::NotAnIndex,
+        18,
+        "NOT_AN_INDEX",
+        "no index, over 4,096 names in one, or no room for its entries or its report",
     ),
 ];
 
@@ -64,6 +71,9 @@ fn constants() {
     assert_eq!(LONGEST_LIST, defined("DM_LIST_MOST"));
     assert_eq!(MOST_NAMES, defined("DM_WARD_NAMES"));
     assert_eq!(LINE_ROOM, defined("DM_WARD_LINE"));
+    assert_eq!(MOST_RECORDS, defined("DM_RECORDS_MOST"));
+    assert_eq!(LONGEST_INDEX, defined("DM_INDEX_MOST"));
+    assert_eq!(LONGEST_FOUND, defined("DM_FOUND_MOST"));
     assert_eq!(env!("CARGO_PKG_VERSION"), behind("#define DM_VERSION \"", &['"']));
 }
 
@@ -71,6 +81,8 @@ fn constants() {
 #[test]
 fn layout() {
     assert_eq!((size_of::<raw::Built>(), size_of::<raw::Coded>()), (24, 24));
+    assert_eq!(size_of::<raw::Indexed>(), 24);
+    assert_eq!((offset_of!(raw::Indexed, index_length), offset_of!(raw::Indexed, report_length)), (8, 16));
     assert_eq!((size_of::<raw::Written>(), offset_of!(raw::Written, length)), (16, 8));
     assert_eq!((offset_of!(raw::Built, line), offset_of!(raw::Built, length)), (8, 16));
     assert_eq!((offset_of!(raw::Coded, count), offset_of!(raw::Coded, place)), (8, 16));

@@ -6,10 +6,12 @@
 
 mod build;
 mod code;
+mod index;
 mod is_plate;
 mod ward;
 
 pub use build::{build, Built};
 pub use code::{encode, list, Coded};
+pub use index::{index_add, index_find, index_make, Indexed};
 pub use is_plate::is_plate;
 pub use ward::{ward, Written};

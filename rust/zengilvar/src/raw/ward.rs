@@ -1,4 +1,4 @@
-/// What `ward` answers: number (0 if answered), and how many bytes were written (0 if refused).
+/// What `ward` and `index_find` answer: number (0 if answered), and how many bytes were written (0 if refused).
 #[repr(C)]
 #[derive(Debug, Clone, Copy, PartialEq, Eq)]
 pub struct Written {

@@ -37,8 +37,8 @@ few-bytes cs i v h p e =
 loop-holds : tie.Need-loop-holds Inv-loop μ-loop
 loop-holds c = (omega arith, plain-none _, no-bytes _)
 
-code-at-requires : tie.Need-code-at-requires Inv-loop μ-loop
-code-at-requires c κs = tt
+char-ahead-requires : tie.Need-char-ahead-requires Inv-loop μ-loop
+char-ahead-requires c κs = tt
 
 in-front-requires : tie.Need-in-front-requires Inv-loop μ-loop
 in-front-requires c κs = let l = c .before .before .before .loop in (l .inv .0, fits _ (l .i) (l .bytes) (l .inv .1) (l .inv .2))
@@ -73,10 +73,10 @@ loop-again c =
     let at-loop = read .before .before in
     let l = at-loop .loop in
     let cs = at-loop .before .before .args .rest .now in
-    let small : getD cs (l .i) 0 < 128 = omega (arith, c .if1 .left, read .code-at .ensures) in (
+    let small : getD cs (l .i) 0 < 128 = omega (arith, c .if1 .left, read .char-ahead .ensures) in (
       omega (arith, read .before .loop-test .taken),
       subst (λ (m : ℕ). Plain m cs) (sym (add-one (l .i))) (plain-more (l .i) cs (l .inv .1) small),
-      ap₂ (λ (v x : ℕ). v * 256 + x) (l .inv .2) (read .code-at .ensures) ∙ sym (bytes-more (l .i) cs) ∙ ap (λ (m : ℕ). packed 0 (ahead m cs)) (sym (add-one (l .i))),
+      ap₂ (λ (v x : ℕ). v * 256 + x) (l .inv .2) (read .char-ahead .ensures) ∙ sym (bytes-more (l .i) cs) ∙ ap (λ (m : ℕ). packed 0 (ahead m cs)) (sym (add-one (l .i))),
     )
 
 in-front-requires-2 : tie.Need-in-front-requires-2 Inv-loop μ-loop
@@ -100,7 +100,7 @@ ahead-of-spec =
     Inv-loop
     μ-loop
     loop-holds
-    code-at-requires
+    char-ahead-requires
     in-front-requires
     returns
     mul-bytes

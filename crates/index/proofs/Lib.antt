@@ -1,0 +1,13 @@
+pub mod Codes
+pub mod Numbers
+pub mod Entries
+pub mod Filling
+pub mod Making
+pub mod Answers
+pub mod Marks
+pub mod Found
+pub mod Finding
+pub mod Added
+pub mod Adding
+pub mod Only
+pub mod OnlyFind
