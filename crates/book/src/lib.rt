@@ -1,5 +1,7 @@
 // The book: rules and foldings noted in the plate's order, and their plate written. It takes spans of any text and knows no form of text: a driver finds the
 // spans, says which byte splits a field, and gives each rule a place by which it finds it again.
+#![tactic(auto)]
+
 pub mod sort; // sort.rt: rules and foldings in the plate's order
 pub mod field; // field.rt: the alternatives of a field
 pub mod note; // note.rt: a rule or a folding noted, or what is wrong with it
@@ -32,7 +34,7 @@ const MOST_ALTERNATIVES: usize = 8;
 const MOST_DIGITS: usize = 6;
 
 // A field: how many alternatives it has, or its first fault.
-#[derive(Drop)]
+#[derive(Clone, Copy)]
 pub enum Alternatives {
     Many(usize),
     TooMany,
@@ -40,7 +42,7 @@ pub enum Alternatives {
 }
 
 // What is wrong with a rule, or with one rule or folding more: 01's refusals 4 to 8.
-#[derive(Drop)]
+#[derive(Clone, Copy)]
 pub enum Flaw {
     EmptyPattern,
     LongPattern,
@@ -50,7 +52,7 @@ pub enum Flaw {
 }
 
 // What is noted: how many rules were read, how many of them and of foldings are kept, and the bits of the rules kept.
-#[derive(Drop)]
+#[derive(Clone, Copy)]
 pub struct Tally {
     pub read: usize,
     pub rules: usize,
@@ -59,7 +61,7 @@ pub struct Tally {
 }
 
 // What is noted then, or why nothing more is.
-#[derive(Drop)]
+#[derive(Clone, Copy)]
 pub enum Noted {
     Fine(Tally),
     Refused(Flaw),

@@ -18,7 +18,7 @@ use chars::utf8::char_at;
 use plate::MOST_RULES;
 
 // A field or a rule: the bits that it takes on the plate, or its first fault.
-#[derive(Drop)]
+#[derive(Clone, Copy)]
 pub enum Judged {
     Fine(usize),
     Wrong(Flaw),

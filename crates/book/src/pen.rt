@@ -4,7 +4,7 @@ ghost use Rattle.plate.specs.Bits.{bits_of};
 ghost use Rattle.book.specs.Pen.{begin, Ready, Wrote, Finished};
 
 // How many whole bytes are written, and the bits that are not yet a byte: their number and how many they are.
-#[derive(Drop)]
+#[derive(Clone, Copy)]
 pub struct Pen {
     pub bytes: usize,
     pub begun: u64,

@@ -1,4 +1,6 @@
 // Branches: a branch, its extension by an alternative, and one step of all branches. 01, "From name to codes".
+#![tactic(auto)]
+
 ghost use Rattle.std.specs.Prelude.{◌≡◌, true, [], ◌++◌, map, ◌≤◌, min, take};
 ghost use Rattle.laws.specs.Lists.{same};
 ghost use Rattle.laws.specs.Once.{once};
@@ -14,7 +16,7 @@ pub const MOST_BRANCHES: usize = 64;
 const CODE_DIGITS: u8 = 6;
 
 // "A branch is its digits so far, at most six, and its last replacement." Digits are ASCII and the bytes past a count are b'0': the six are the padded code.
-#[derive(Drop)]
+#[derive(Clone, Copy)]
 pub struct Branch {
     pub digits: [u8; MOST_DIGITS],
     pub count: u8,
@@ -23,14 +25,14 @@ pub struct Branch {
 }
 
 // "up to 64 are held side by side"; those past the count are blank.
-#[derive(Drop)]
+#[derive(Clone, Copy)]
 pub struct Branches {
     pub items: [Branch; MOST_BRANCHES],
     pub count: usize,
 }
 
 // The branches behind a step; or that they are more than there is room for, and no branch.
-#[derive(Drop)]
+#[derive(Clone, Copy)]
 pub struct Stepped {
     pub next: Branches,
     pub over: bool,

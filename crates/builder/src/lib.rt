@@ -1,4 +1,6 @@
 // From rule text to a plate. 01: "Build checks 1, then 2 (whole text), then items front to back, the first fault in the text deciding. [..] Last 9."
+#![tactic(auto)]
+
 mod known; // known.rt: whether a pattern is one of those noted
 mod survey; // survey.rt: the items front to back, noted in the book, the first fault deciding
 mod write; // write.rt: what is noted, written as a plate
@@ -21,14 +23,14 @@ const LONGEST_TEXT: usize = 65536;
 const BAR: u8 = b'|';
 
 // What is wrong with an item: 01's refusal 3, or what the book finds, 4 to 8.
-#[derive(Drop)]
+#[derive(Clone, Copy)]
 pub enum Fault {
     NotRecognised,
     Flawed(Flaw),
 }
 
 // What build answers: the plate's length in bytes, or why there is none; with a fault the line of its item.
-#[derive(Drop)]
+#[derive(Clone, Copy)]
 pub enum Built {
     Plate(usize),
     LongText,

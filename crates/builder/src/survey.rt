@@ -18,14 +18,14 @@ use rule_text::rule::bytes_in;
 use rule_text::{Entry, Four};
 
 // Behind one item more: the next place, and what is noted; or its fault.
-#[derive(Drop)]
+#[derive(Clone, Copy)]
 pub enum Turn {
     On(usize, Tally),
     Stop(Fault),
 }
 
 // The whole text: what its items have said, or the first fault and the place of its item.
-#[derive(Drop)]
+#[derive(Clone, Copy)]
 pub enum Surveyed {
     Fine(Tally),
     Faulty(Fault, usize),

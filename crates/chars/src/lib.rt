@@ -1,4 +1,6 @@
 // Characters: UTF-8, White_Space, vowels, lowercase; and bytes counted.
+#![tactic(auto)]
+
 pub mod utf8; // utf8.rt: the character at a place; whole texts
 pub mod letters; // letters.rt: White_Space, what a name may hold, vowels
 pub mod lower; // lower.rt: lowercase, by two tables
@@ -14,7 +16,7 @@ const CYRILLIC_FIRST: u32 = 0x400;
 const CYRILLIC_LAST: u32 = 0x45F;
 
 // What stands in front of some bytes: a character with its width in bytes, a sequence that is not UTF-8, or nothing.
-#[derive(Drop)]
+#[derive(Clone, Copy)]
 pub enum Char {
     One(u32, usize),
     Bad,
@@ -22,14 +24,14 @@ pub enum Char {
 }
 
 // A whole text: the place of the first sequence that is not UTF-8, or, of UTF-8, whether it holds a zero byte.
-#[derive(Drop)]
+#[derive(Clone, Copy)]
 pub enum Checked {
     BadAt(usize),
     Text(bool),
 }
 
 // The character that follows, or none.
-#[derive(Drop)]
+#[derive(Clone, Copy)]
 pub enum Next {
     Is(u32),
     None,

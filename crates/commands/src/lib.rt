@@ -1,4 +1,5 @@
 // The commands as C's main starts them: each answers the status of its process.
+#![tactic(auto)]
 
 #[unsafe(no_mangle)]
 pub extern "C" fn dm_main() -> i32 {

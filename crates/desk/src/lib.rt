@@ -1,4 +1,6 @@
 // desk: names from standard input, one to a line, each answered by its shelf (the first code) and the codes to search under, or why it is refused.
+#![tactic(auto)]
+
 mod help; // help.rt: the page
 
 use files::read::fill_gaps;

@@ -1,4 +1,5 @@
 // Runs desk in the gate, whose programs have no status.
+#![tactic(auto)]
 
 fn main() {
     desk::run();

@@ -1,5 +1,7 @@
 // dm, the command: codes names by a plate or by the standard rules, builds a plate from rule text, checks a rule text, and keeps an index of names.
 // Answers go to standard output, refusals and faults to standard error; the status says which of them there were.
+#![tactic(auto)]
+
 mod help; // help.rt: the page
 mod code; // code.rt: list and encode
 mod make; // make.rt: build and check

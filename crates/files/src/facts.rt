@@ -2,7 +2,7 @@
 use libc::types::{stat, timespec};
 
 // Two open files are the same file if device and number are equal. The kind is among the bits of the mode. Nothing is known where the mode is 0.
-#[derive(Drop)]
+#[derive(Clone, Copy)]
 pub struct Facts {
     pub device: u64,
     pub number: u64,

@@ -16,7 +16,7 @@ pub fn open(who: u8, path: &[u8]) -> i32 {
 }
 
 // How many bytes were read, and whether that went without a fault.
-#[derive(Drop)]
+#[derive(Clone, Copy)]
 pub struct Got {
     pub count: usize,
     pub is_read: bool,

@@ -1,4 +1,6 @@
 // What the programs share: their arguments, what they say and how, and the words of the refusals.
+#![tactic(auto)]
+
 pub mod rooms; // rooms.rt: the buffers, and parts of them
 pub mod out; // out.rt: what a program says, collected and written at once
 pub mod show; // show.rt: a name, a character, a number as people may see them

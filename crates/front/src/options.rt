@@ -38,7 +38,7 @@ pub const NO_COMMAND: u8 = 4;
 
 // Where the options and the first operands stand among the arguments, 0 for none, and what the argument just passed was. Behind an option that waits
 // for a value the next argument is that value, whatever it looks like.
-#[derive(Drop)]
+#[derive(Clone, Copy)]
 pub struct Scan {
     pub plate: usize,
     pub names: usize,
@@ -271,7 +271,7 @@ pub fn tell_words(who: u8, words: &[u8], tip: &[u8]) -> i32 {
 }
 
 // A value: the part of the buffer where it stands, and whether there is one that fits.
-#[derive(Drop)]
+#[derive(Clone, Copy)]
 pub struct Found {
     pub start: usize,
     pub end: usize,

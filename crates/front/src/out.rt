@@ -17,7 +17,7 @@ pub const DESK: u8 = 1;
 
 pub const WARD: u8 = 2;
 
-#[derive(Drop)]
+#[derive(Clone, Copy)]
 pub struct Pen {
     pub who: u8,
     pub fd: i32,

@@ -26,7 +26,7 @@ fn records_room() -> [u8; 8192] {
 }
 
 // Where the first name stands among the arguments, whether there are several, and whether the names of the records are shown.
-#[derive(Drop)]
+#[derive(Clone, Copy)]
 pub(crate) struct Asked {
     pub first: usize,
     pub several: bool,
@@ -92,7 +92,7 @@ fn put_named(
 }
 
 // What is said, how many bytes of the records are passed, and the lines of the file so far.
-#[derive(Drop)]
+#[derive(Clone, Copy)]
 struct Course {
     pen: Pen,
     at: usize,

@@ -12,7 +12,7 @@ const NAMES_MOST: usize = 4096;
 const NEARLY_FULL: usize = 65280;
 
 // What is in use of index and report, whether the last name was not added, and whether some were refused.
-#[derive(Drop)]
+#[derive(Clone, Copy)]
 pub(crate) struct Grown {
     pub used: usize,
     pub noted: usize,

@@ -61,7 +61,7 @@ pub(crate) fn refuse(path: &[u8], words: &[u8]) -> i32 {
 }
 
 // How many bytes a file has, and the status where it is not taken.
-#[derive(Drop)]
+#[derive(Clone, Copy)]
 pub(crate) struct File {
     pub count: usize,
     pub status: i32,

@@ -1,4 +1,6 @@
 // dm index: an index of names in a file, and its report in the file beside it: made, added to, looked up. 02, M-108.
+#![tactic(auto)]
+
 mod lines; // lines.rt: the lines of a file, one after the other
 mod kept; // kept.rt: the two files
 mod pair; // pair.rt: whether index and report belong together

@@ -9,7 +9,7 @@ pub(crate) fn line_room() -> [u8; 261] {
 }
 
 // What is read and not taken yet, how much of a line is kept, whether it is whole, and whether the file is at its end, or was not read.
-#[derive(Drop)]
+#[derive(Clone, Copy)]
 pub(crate) struct Lines {
     pub at: usize,
     pub end: usize,

@@ -21,7 +21,7 @@ fn grow_by(plate: &[u8], line: &[u8], index: &mut [u8], report: &mut [u8], g: Gr
 }
 
 // How far it came, and whether the file was read to there.
-#[derive(Drop)]
+#[derive(Clone, Copy)]
 struct Course {
     grown: Grown,
     lines: Lines,

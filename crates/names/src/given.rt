@@ -12,7 +12,7 @@ use zengilvar::dm_encode;
 const PLATE_MOST: usize = 65536;
 
 // How many bytes the plate has, and the status where there is none.
-#[derive(Drop)]
+#[derive(Clone, Copy)]
 pub struct Plate {
     pub count: usize,
     pub status: i32,

@@ -1,10 +1,12 @@
 // Names answered by a plate: the plate that a program was given, the answer on one name, and names read a line each.
+#![tactic(auto)]
+
 pub mod given; // given.rt: the plate that is given
 pub mod answer; // answer.rt: one name
 pub mod lines; // lines.rt: names a line each
 
 // How a name is answered: by all its codes or the first; with the name in front; by shelf and search codes, as the desk does.
-#[derive(Drop)]
+#[derive(Clone, Copy)]
 pub struct Way {
     pub all: bool,
     pub named: bool,

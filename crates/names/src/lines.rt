@@ -15,7 +15,7 @@ fn line_room() -> [u8; 261]
 }
 
 // What is kept of a line that is not at its end yet, and whether it is the first.
-#[derive(Drop)]
+#[derive(Clone, Copy)]
 struct Run {
     kept: usize,
     is_first: bool,
@@ -23,7 +23,7 @@ struct Run {
 }
 
 // A turn's end: what goes on, and whether there may be more input.
-#[derive(Drop)]
+#[derive(Clone, Copy)]
 struct Turn {
     run: Run,
     more: bool,
@@ -181,7 +181,7 @@ fn read_some(
 }
 
 // Where names are read from, and whether a prompt is shown.
-#[derive(Drop)]
+#[derive(Clone, Copy)]
 pub struct Input {
     pub fd: i32,
     pub prompt: bool,

@@ -3,6 +3,8 @@
 // names.txt holds the examples of 01 that are not starred, worked out by hand from 01, "Examples to hold against it" and "Known differences", before the program
 // was first run; vectors-1.txt and vectors-2.txt hold the Rust's own answers; control.txt holds wrong ones, each of which must be shown.
 // Plates stand byte by byte, so that this says nothing about build.
+#![tactic(auto)]
+
 mod answer; // answer.rt: one call, and its answer compared
 
 use answer::is_answered;
@@ -12,7 +14,7 @@ use trial::lines::{end_of, letter_of, next_line};
 use trial::say::{fault, labelled, word};
 
 // What the lines of a file have come to: the plate's length, more than its buffer has where its line has another form; how many answers, and how many lines differ.
-#[derive(Drop)]
+#[derive(Clone, Copy)]
 struct Tally {
     plate: usize,
     answers: usize,

@@ -8,7 +8,7 @@ use super::bits::bits;
 use super::{COUNT_BITS_1, COUNT_BITS_2, EDITION_1, EDITION_2, MOST_RULES, MOST_RULES_1};
 
 // What a head tells of its edition: the number, and the width of the rule count.
-#[derive(Drop)]
+#[derive(Clone, Copy)]
 pub struct Head {
     pub number: u32,
     pub width: usize,

@@ -1,4 +1,6 @@
 // The plate: its bits, which bytes are one, reading a rule or a folding at a bit place. What build writes stands in specs/ here, the code that writes it in the crate builder.
+#![tactic(auto)]
+
 pub mod bits; // bits.rt: the number that bits at a place write
 mod window; // window.rt: sixty-four bits at once
 mod plain; // plain.rt: plain rules, by the shape of their bits
@@ -47,49 +49,49 @@ pub const FOLDINGS: usize = 32;
 pub const NOTED: usize = LATIN;
 
 // The place behind what was accepted, or nowhere.
-#[derive(Drop)]
+#[derive(Clone, Copy)]
 pub enum Step {
     To(usize),
     Nowhere,
 }
 
 // The character in front, its code point and its width in bytes, if there is one and it is not U+0000.
-#[derive(Drop)]
+#[derive(Clone, Copy)]
 pub enum Front {
     Is(u32, usize),
     Not,
 }
 
 // The first code point of a pattern that is accepted.
-#[derive(Drop)]
+#[derive(Clone, Copy)]
 pub enum First {
     Code(u32),
     None,
 }
 
 // A rule that is accepted: its first code point, its pattern's length in bytes, and the place behind it.
-#[derive(Drop)]
+#[derive(Clone, Copy)]
 pub enum Seen {
     Good(u32, usize, usize),
     Wrong,
 }
 
 // The rules of a character's group by their numbers: the first, and the one behind the last.
-#[derive(Drop)]
+#[derive(Clone, Copy)]
 pub struct Group {
     pub first: usize,
     pub behind: usize,
 }
 
 // A character of a pattern, and its width in bytes.
-#[derive(Drop)]
+#[derive(Clone, Copy)]
 pub struct Letter {
     pub code: u32,
     pub width: usize,
 }
 
 // How a pattern stands to the characters ahead: it begins them, and so many are its own; it does not; or there are not enough of them to tell.
-#[derive(Drop)]
+#[derive(Clone, Copy)]
 pub enum Beginning {
     Is(usize),
     Not,
@@ -97,14 +99,14 @@ pub enum Beginning {
 }
 
 // An alternative: its ASCII digits, and zeros (as ASCII) behind them.
-#[derive(Drop)]
+#[derive(Clone, Copy)]
 pub struct Alternative {
     pub digits: [u8; MOST_DIGITS],
     pub count: u8,
 }
 
 // The alternatives of a field, empty ones behind them.
-#[derive(Drop)]
+#[derive(Clone, Copy)]
 pub struct Field {
     pub alternatives: [Alternative; MOST_ALTERNATIVES],
     pub count: usize,

@@ -5,6 +5,8 @@
 // A line of build: the text's name, its bytes, the buffer's bytes; then 01's number, line and length, and whether every byte behind the plate (of the whole buffer,
 // if it is refused) is as lent.
 // That part of the file stdout was worked out from 01 before the program was run, by a reader and writer of plates that follow 01's words and share nothing with this repository.
+#![tactic(auto)]
+
 mod cases; // cases.rt: the cases of a file
 mod items; // items.rt: the items of a text and the alternatives of a field
 mod ask; // ask.rt: a text is built, and the answer written

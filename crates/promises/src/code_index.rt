@@ -36,7 +36,7 @@ fn finds(plate: &[u8], index: &[u8], name: &[u8], out: &mut [u8]) -> DmWritten
 }
 
 // What make and find answer.
-#[derive(Drop)]
+#[derive(Clone, Copy)]
 struct MadeAndFound {
     pub made: DmIndexed,
     pub found: DmWritten,
@@ -64,7 +64,7 @@ fn makes_and_finds(
 }
 
 // What making, adding and making afresh answer.
-#[derive(Drop)]
+#[derive(Clone, Copy)]
 struct Thrice {
     pub made: DmIndexed,
     pub added: DmIndexed,
@@ -97,7 +97,7 @@ fn adds_afresh(
 }
 
 // What two makes and two lookups answer.
-#[derive(Drop)]
+#[derive(Clone, Copy)]
 struct TwoFinds {
     pub first: MadeAndFound,
     pub second: MadeAndFound,

@@ -1,5 +1,7 @@
 // The mission's three demands, promised of the library's calls. specs/Demands.antt says each; a function here only makes the calls that it speaks of, so that
 // it is proved exactly if what the calls promise is enough. A call that promised less would not prove it (tests/weakened).
+#![tactic(auto)]
+
 ghost use Rattle.zengilvar.specs.Numbers.{built, coded};
 ghost use Rattle.promises.specs.Demands.{BuildRefuses, BuildGives, ListRefuses, ListGives, EncodeRefuses, EncodeGives, ListsChoices, EncodesFirst, PlatesKeep, TextsKeep, GivenAgain};
 ghost use Rattle.promises.specs.Once.{ListsOnce};
@@ -39,7 +41,7 @@ fn encodes(plate: &[u8], name: &[u8], out: &mut [u8]) -> DmCoded
 }
 
 // What two calls answer.
-#[derive(Drop)]
+#[derive(Clone, Copy)]
 struct Both {
     pub first: DmCoded,
     pub second: DmCoded,
@@ -148,7 +150,7 @@ fn encodes_without(plate: &[u8], less: &[u8], name: &[u8], out: &mut [u8], more:
 }
 
 // What two builds answer, and two calls by the plates that they wrote.
-#[derive(Drop)]
+#[derive(Clone, Copy)]
 struct Four {
     pub one: DmBuilt,
     pub two: DmBuilt,

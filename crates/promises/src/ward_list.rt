@@ -15,7 +15,7 @@ fn wards(plate: &[u8], names: &[u8], out: &mut [u8]) -> DmWritten
 }
 
 // What ward and list answer.
-#[derive(Drop)]
+#[derive(Clone, Copy)]
 struct WardAndList {
     pub ward: DmWritten,
     pub list: DmCoded,
@@ -40,7 +40,7 @@ fn wards_as_lists(
 }
 
 // What two wards answer.
-#[derive(Drop)]
+#[derive(Clone, Copy)]
 struct TwoWards {
     pub first: DmWritten,
     pub second: DmWritten,

@@ -14,7 +14,7 @@ use front::show::{next_char, put_char, put_number, put_text};
 use std::num::wrapping_add_u64;
 
 // What was found so far: rules, foldings and warnings.
-#[derive(Drop)]
+#[derive(Clone, Copy)]
 struct Tally {
     rules: u64,
     foldings: u64,

@@ -13,7 +13,7 @@ pub(crate) const FOLDING: u8 = 1;
 pub(crate) const OTHER: u8 = 2;
 
 // An item: of a rule the place of its pattern, of a folding its characters; and its length.
-#[derive(Drop)]
+#[derive(Clone, Copy)]
 pub(crate) struct Item {
     pub(crate) kind: u8,
     pub(crate) from: usize,

@@ -1,5 +1,7 @@
 // The plate of rules/daitch-mokotoff.txt, flag on: the standard rules, built in. The definitions quote the text, and the plate is proved to be what build
 // writes of it; tests/standard holds the quoted text to the file.
+#![tactic(auto)]
+
 ghost use Rattle.std.specs.Prelude.{◌≡◌, length, true};
 ghost use Rattle.plate.specs.Read.{accepted};
 ghost use Rattle.standard.specs.Plate.{standard};

@@ -7,7 +7,7 @@ use super::lines::{end_of, hex_byte};
 const NO_CASE: usize = 18446744073709551615;
 
 // A byte and with how many it is written, 0 if it is a backslash with no two hex digits behind it.
-#[derive(Drop)]
+#[derive(Clone, Copy)]
 struct Written {
     byte: u8,
     width: usize,

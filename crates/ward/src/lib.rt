@@ -1,4 +1,6 @@
 // A whole ward list in one call: the plate is accepted once, then a line is written for each name. 02, M-103.
+#![tactic(auto)]
+
 ghost use Rattle.std.specs.Prelude.{◌≡◌, true, ◌*◌, ◌≤◌, ◌<◌, length};
 ghost use Rattle.laws.specs.Lists.{cat};
 ghost use Rattle.plate.specs.Read.{accepted};
@@ -23,7 +25,7 @@ pub const LIST_BYTES: usize = 447;
 const LINE_BYTES: usize = 448;
 
 // What ward answers: the bytes written, or why there are none.
-#[derive(Drop)]
+#[derive(Clone, Copy)]
 pub enum Warded {
     Lines(usize),
     NotAPlate,

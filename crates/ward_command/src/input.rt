@@ -15,7 +15,7 @@ use std::num::wrapping_add_usize;
 const KEPT: usize = 300;
 
 // Where we are in an input: the bytes that are kept at the front of the block, and whether they begin the input.
-#[derive(Drop)]
+#[derive(Clone, Copy)]
 struct Block {
     kept: usize,
     is_first: bool,

@@ -1,4 +1,6 @@
 // ward: lists of names, a line each, coded at most 128 to a call and answered by a line each; at the end it is told how many were refused.
+#![tactic(auto)]
+
 mod help; // help.rt: the page
 mod words; // words.rt: the arguments
 mod tally; // tally.rt: how many names there were, and how many were refused
@@ -14,7 +16,7 @@ use tally::Tally;
 use words::Words;
 
 // How the run goes: what is said, and what was counted.
-#[derive(Drop)]
+#[derive(Clone, Copy)]
 pub(crate) struct Course {
     pen: Pen,
     tally: Tally,

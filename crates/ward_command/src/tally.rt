@@ -10,7 +10,7 @@ use std::num::{wrapping_add_u64, wrapping_sub_u64};
 const SHOWN_EACH: u64 = 100000;
 
 // `shown` is the number that was shown last, 0 where none was.
-#[derive(Drop)]
+#[derive(Clone, Copy)]
 pub(crate) struct Tally {
     names: u64,
     long: u64,

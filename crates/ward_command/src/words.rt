@@ -7,7 +7,7 @@ use front::rooms::part;
 const BARE: u8 = 100;
 
 // What all programs know of the arguments passed, whether `--bare` was among them, what the one just passed was, and the option that waits for a value still.
-#[derive(Drop)]
+#[derive(Clone, Copy)]
 pub(crate) struct Words {
     pub scan: Scan,
     pub bare: bool,

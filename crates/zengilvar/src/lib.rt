@@ -1,4 +1,6 @@
 // The library that C and Rust link: build, encode, list, ward and the index with 01's numbers in place of enums, which C does not have. include/zengilvar.h declares it.
+#![tactic(auto)]
+
 ghost use Rattle.builder.specs.Build.{build_answer};
 ghost use Rattle.coder.specs.Answer.{list_answer, encode_answer};
 ghost use Rattle.builder.specs.Survey.{fault_number};
@@ -19,7 +21,7 @@ pub mod code_index; // code_index.rt: index and report of names, and who shares 
 
 // What dm_build answers.
 #[repr(C)]
-#[derive(Drop)]
+#[derive(Clone, Copy)]
 pub struct DmBuilt {
     pub number: u64,
     pub line: u64,
@@ -28,7 +30,7 @@ pub struct DmBuilt {
 
 // What dm_encode and dm_list answer. `place` is the byte of the name at which its fault begins, with 2 and 11.
 #[repr(C)]
-#[derive(Drop)]
+#[derive(Clone, Copy)]
 pub struct DmCoded {
     pub number: u64,
     pub count: u64,
@@ -37,7 +39,7 @@ pub struct DmCoded {
 
 // What dm_index_make and dm_index_add answer.
 #[repr(C)]
-#[derive(Drop)]
+#[derive(Clone, Copy)]
 pub struct DmIndexed {
     pub number: u64,
     pub index_length: u64,
@@ -46,7 +48,7 @@ pub struct DmIndexed {
 
 // What dm_ward and dm_index_find answer.
 #[repr(C)]
-#[derive(Drop)]
+#[derive(Clone, Copy)]
 pub struct DmWritten {
     pub number: u64,
     pub length: u64,
