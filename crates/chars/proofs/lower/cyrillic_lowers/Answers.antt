@@ -2,12 +2,8 @@
 use mathlib.Core.Path.{refl}
 use Rattle.chars.specs.Letters.{lower_of, capital, even_capital, odd_capital}
 use Rattle.chars.specs.Table.{cyrillic_table}
-use Rattle.chars.proofs.lower.cyrillic_lowers.Statement.{statement}
-use Rattle.chars.proofs.lower.cyrillic_lowers.Tie as tie
+use Rattle.chars.proofs.lower.cyrillic_lowers.Goals as goal
 
-returns : tie.Need-returns
+pub returns : goal.returns
 unfolding cyrillic_table lower_of capital even_capital odd_capital
 returns c = refl
-
-pub cyrillic-lowers-spec : {M : Type 1} → statement M
-cyrillic-lowers-spec = tie.close (tie.spec returns)

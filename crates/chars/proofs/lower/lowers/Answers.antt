@@ -2,12 +2,8 @@
 use mathlib.Core.Path.{refl}
 use Rattle.chars.specs.Letters.{lower_of, capital, even_capital, odd_capital}
 use Rattle.chars.specs.Table.{table}
-use Rattle.chars.proofs.lower.lowers.Statement.{statement}
-use Rattle.chars.proofs.lower.lowers.Tie as tie
+use Rattle.chars.proofs.lower.lowers.Goals as goal
 
-returns : tie.Need-returns
+pub returns : goal.returns
 unfolding table lower_of capital even_capital odd_capital
 returns c = refl
-
-pub lowers-spec : {M : Type 1} → statement M
-lowers-spec = tie.close (tie.spec returns)

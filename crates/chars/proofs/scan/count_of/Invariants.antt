@@ -1,0 +1,15 @@
+-- `scan::count_of` meets its contract. The loop keeps: the bytes that are b are those counted and those from here on.
+-- A turn is Counts.count-hit or Counts.count-step, the way out Counts.count-end. Assumes nothing.
+use mathlib.Core.Path.{◌≡◌}
+use Prim.Native.Nat.{◌+◌, ◌-◌, ◌≤◌}
+use native.Mathlib.Omega.{arith}
+use lib.ListN.{length, drop}
+use Rattle.laws.specs.Lists.{count_of}
+use Rattle.laws.proofs.Counts.{count_end, count_hit, count_step}
+use Rattle.chars.proofs.scan.count_of.Given as goal
+
+abbrev pub invariant-loop-i : goal.invariant-loop-i
+invariant-loop-i l = (l.i ≤ length l.s) × (l.n ≤ l.i) × (count_of l.b l.s ≡ l.n + count_of l.b (drop l.i l.s))
+
+abbrev pub decreases-loop-i : goal.decreases-loop-i
+decreases-loop-i l = length l.s - l.i
