@@ -1,0 +1,145 @@
+-- `plate::accept::accept_rules` meets its contract: the rules left are good and in order exactly if all are, and those passed are noted (Noting.Going).
+-- Assumes nothing.
+use Rattle.std.proofs.Common.{◌≡◌, ℕ, ◌+◌, ◌-◌, ◌*◌, ◌<◌, ◌≤◌, true, false, ◌⊎◌, List, length, set, sym, refl, ap, ◌∙◌, subst, inl, inr, arith, length-set, rules, le-ltb, lt-ltb, le-leb}
+use native.Mathlib.Nat.{sub-zero}
+use borrow.Author.Tests.{lt-leb}
+use lib.ListN.{length-replicate}
+use Rattle.plate.specs.Answers.{SeenTo, in_order, rules_step}
+use Rattle.plate.specs.Most.{rule_most}
+use Rattle.plate.specs.declared.Seen.{Seen}
+use Rattle.plate.specs.declared.Seen.TheVariants.{Good, Wrong}
+use Rattle.plate.specs.declared.Step.TheVariants.{Nowhere}
+use Rattle.plate.specs.Noted.{half, noted_characters, NotedFrom}
+use Rattle.plate.proofs.Accepted.{made_wrong, order_wrong, order_good, order_same, order_apart, rules_stop, rules_turn, rules_end}
+use Rattle.plate.proofs.Noting.{Going, going_start, going_turn, set_set}
+use Rattle.plate.proofs.accept.accept_rules.Tie as tie
+use Rattle.plate.proofs.accept.accept_rules.Lts as places
+use Rattle.plate.proofs.accept.accept_rules.Reads as reads
+use Rattle.plate.proofs.accept.accept_rules.Goals as goal
+
+abbrev At-loop : Type 0
+At-loop = places.At-loop tie.the-claims reads.Pre reads.Post goal.the-invariant-loop-i goal.the-decreases-loop-i
+
+-- Both arrays are as long as they were lent.
+groups-long : (at-loop : At-loop) → length at-loop.loop-i.groups ≡ length at-loop.args.groups.now
+groups-long at-loop =
+    at-loop.loop-i.invariant.2.size ∙ sym (ap length at-loop.requires.2.clear ∙ length-replicate {A = ℕ} noted_characters 0)
+
+pub loop-i-init : goal.loop-i-init
+loop-i-init c =
+    let a = c.args in (
+      omega arith,
+      omega arith,
+      record {
+        long = refl;
+        left = ap (λ (k : ℕ). rules_step a.plate.now a.from k 0 0) (sub-zero a.n);
+        size = ap length c.requires.2.clear ∙ length-replicate {A = ℕ} noted_characters 0;
+        going = going_start a.plate.now a.from a.places.now (set a.groups.now 0 0) (ap (λ (l : List ℕ). set l 0 0) c.requires.2.clear);
+      },
+    )
+
+pub shape_of-places-in_default : goal.shape_of-places-in_default
+shape_of-places-in_default c = c.loop-i.invariant.2.long
+
+pub shape_of-groups-in_default : goal.shape_of-groups-in_default
+shape_of-groups-in_default c = groups-long c.before.before.before.before.before
+
+pub returns-in_default : goal.returns-in_default
+returns-in_default c =
+    let a = c.args in
+    let l = c.loop-i in (
+      rules_stop a.plate.now l.at (a.n - l.i) l.code l.length (omega arith) Wrong
+          (made_wrong a.plate.now l.at l.code l.length c.accept_rule.result c.accept_rule.ensures.0 c.in_default.is) refl
+          ∙ l.invariant.2.left,
+      omega arith,
+      tt,
+    )
+
+pub overflow_cast-places : goal.overflow_cast-places
+overflow_cast-places c = record { fits = omega arith }
+
+pub bounds-places-i : goal.bounds-places-i
+bounds-places-i c = let p = c.loop-i.invariant.2.long in omega arith
+
+pub shape_of-places-then-length-k : goal.shape_of-places-then-length-k
+shape_of-places-then-length-k c = places-long c.before.before.before.before
+
+pub shape_of-groups-then-length-k : goal.shape_of-groups-then-length-k
+shape_of-groups-then-length-k c = groups-long (at-loop c.before.before.before.before)
+
+pub returns-then-length-k : goal.returns-then-length-k
+returns-then-length-k c =
+    let l = (at-loop c.before.before.before.before).loop in
+    let longer = lt-leb (bytes c.before.before.before.before) l.length c.if-length-k.true in
+    (refused c.before.before.before.before (sym (order_same l.code l.length (first c.before.before.before.before) (bytes c.before.before.before.before) (sym c.if-c-code.true)) ∙ longer), omega arith, tt)
+
+pub loop-i-preserved-then-c-code : goal.loop-i-preserved-then-c-code
+loop-i-preserved-then-c-code c =
+    let l = (at-loop c.before.before.before.before).loop in
+    let k = bytes c.before.before.before.before in
+    let w = near c.before.before.before.before in
+    let in_order = sym (order_same l.code l.length l.code k refl) ∙ le-leb k l.length c.if-length-k.false in (
+      omega arith,
+      omega arith,
+      passed c.before.before.before.before l.code l.begun l.groups (sym c.if-c-code.true) in_order (inl (refl, refl)) l.inv.2.size
+          (set_set l.groups l.code (l.begun * half + l.i) (l.begun * half + (l.i + 1))),
+    )
+
+pub shape_of-places-then-c-code-2 : goal.shape_of-places-then-c-code-2
+shape_of-places-then-c-code-2 c = places-long c.before.before.before.before
+
+pub shape_of-groups-then-c-code-2 : goal.shape_of-groups-then-c-code-2
+shape_of-groups-then-c-code-2 c = groups-long (at-loop c.before.before.before.before)
+
+pub returns-then-c-code-2 : goal.returns-then-c-code-2
+returns-then-c-code-2 c =
+    let l = (at-loop c.before.before.before.before).loop in
+    let other = c.if-c-code.false in
+    let low : first c.before.before.before.before ≤ l.code = omega (arith, c.if-c-code-2.true) in
+    (refused c.before.before.before.before (sym (order_apart l.code l.length (first c.before.before.before.before) (bytes c.before.before.before.before) (λ e. other (sym e))) ∙ le-ltb l.code (first c.before.before.before.before) low), omega arith, tt)
+
+pub note_group-requires : goal.note_group-requires
+note_group-requires c =
+    let at-loop = c.before.before.before.before.before.before.before.before.before in
+    let q = at-loop.loop.inv.2.going.last.rising in
+    (at-loop.loop.inv.2.size, omega arith, omega arith)
+
+pub loop-i-preserved : goal.loop-i-preserved
+loop-i-preserved c =
+    let l = (at-loop c.before.before.before.before.before.before.before.before).loop in
+    let k = bytes c.before.before.before.before.before.before.before.before in
+    let w = near c.before.before.before.before.before.before.before.before in
+    let other = c.if-c-code.false in
+    let above : l.code < first c.before.before.before.before.before.before.before.before = omega (arith, other, c.if-c-code-2.false) in
+    let in_order = sym (order_apart l.code l.length (first c.before.before.before.before.before.before.before.before) k (λ e. other (sym e))) ∙ lt-ltb l.code (first c.before.before.before.before.before.before.before.before) above in
+    let told = c.note_group.ensures in (
+      omega arith,
+      omega arith,
+      passed c.before.before.before.before.before.before.before.before (first c.before.before.before.before.before.before.before.before) l.i _ refl in_order (inr (other, refl)) (ap length told ∙ length-set l.groups l.code (l.begun * half + l.i) ∙ l.inv.2.size)
+          (ap (λ (x : List ℕ). set x (first c.before.before.before.before.before.before.before.before) (l.i * half + (l.i + 1))) (sym told)),
+    )
+
+pub note_group-requires-2 : goal.note_group-requires-2
+note_group-requires-2 c =
+    let q = c.loop-i.invariant.2.going.last.rising in
+    (c.loop-i.invariant.2.size, omega arith, omega arith)
+
+pub shape_of-places : goal.shape_of-places
+shape_of-places c =
+    c.loop-i.invariant.2.long
+
+pub shape_of-groups : goal.shape_of-groups
+shape_of-groups c =
+    let l = c.loop-i in
+    ap length c.note_group-2.ensures ∙ length-set l.groups l.code (l.begun * half + c.args.n) ∙ groups-long c.before.before.before.before.before.before
+
+pub returns : goal.returns
+returns c =
+    let a = c.args in
+    let l = c.loop-i in
+    let all : l.i ≡ a.n = omega arith in (
+      sym (rules_end a.plate.now l.at (a.n - l.i) l.code l.length (omega arith)) ∙ l.invariant.2.left,
+      omega arith,
+      subst (λ (x : List ℕ). NotedFrom a.plate.now a.from a.n l.places x) (sym c.note_group-2.ensures)
+          (subst (λ (k : ℕ). NotedFrom a.plate.now a.from k l.places (set l.groups l.code (l.begun * half + k))) all l.invariant.2.going.noted),
+    )

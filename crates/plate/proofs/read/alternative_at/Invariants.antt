@@ -1,0 +1,15 @@
+-- `plate::read::alternative_at` meets its contract: the digits stored are the first k, and the fill stands behind them; each turn stores one more
+-- (Parts.digits-store). Assumes nothing.
+use Rattle.std.proofs.Common.{◌≡◌, ◌+◌, ◌-◌, ◌<◌, ◌≤◌, ◌++◌, replicate, refl, arith}
+use Rattle.plate.specs.Plate.{most_digits}
+use Rattle.plate.specs.Bits.{number_at}
+use Rattle.plate.specs.Read.{many}
+use Rattle.plate.proofs.Parts.{count_six, digits_store, alternative_held}
+use Rattle.plate.proofs.read.alternative_at.Given as goal
+
+abbrev pub invariant-loop-k : goal.invariant-loop-k
+invariant-loop-k l =
+    (l.k ≤ l.n) × (l.n ≤ most_digits) × (l.digits ≡ many (λ p. 48 + number_at l.plate p 4) (λ p. p + 4) l.k (l.at + 3) ++ replicate (most_digits - l.k) 48)
+
+abbrev pub decreases-loop-k : goal.decreases-loop-k
+decreases-loop-k l = l.n - l.k
