@@ -2,7 +2,7 @@
 -- Assumes nothing.
 use Rattle.std.proofs.Common.{◌≡◌, ℕ, zero, suc, ◌+◌, ◌-◌, ◌*◌, ◌/◌, ◌%◌, ◌^◌, ◌<◌, ◌≤◌, List, [], ◌∷◌, ◌++◌, length, get_or, take, drop, sym, refl, ap, ◌∙◌, subst, ap₂, mod-lt, pow-suc, div-one, arith, lit<, length-append, length-drop, drop-cons, take_at, get_or-append-add, drop_at, shr-shr}
 use lib.Arith.{digits_lt}
-use lib.ListN.{get_or_append}
+use lib.ListN.{get_or-append}
 use lib.Seq.{get_or_at, append_snoc}
 use Rattle.laws.proofs.Bits.{by_order, half, odd}
 use Rattle.plate.specs.Bits.{bits_of, value, unpack, bit, number_at}
@@ -12,7 +12,7 @@ use Rattle.plate.proofs.Packed.{length_bits_of, value_bits_of}
 
 bits_low : (w v i : ℕ) → i < w → get_or (bits_of w (v / 2)) i 0 ≡ v / 2 / 2 ^ (w - suc i) % 2 → get_or (bits_of (suc w) v) i 0 ≡ v / 2 ^ (suc w - suc i) % 2
 bits_low w v i h e =
-    get_or_append (bits_of w (v / 2)) (v % 2 ∷ []) 0 i (subst (λ (n : ℕ). i < n) (sym (length_bits_of w (v / 2))) h)
+    get_or-append (bits_of w (v / 2)) (v % 2 ∷ []) 0 i (subst (λ (n : ℕ). i < n) (sym (length_bits_of w (v / 2))) h)
     ∙ e ∙ ap (λ (n : ℕ). n % 2) (shr-shr v 1 (w - suc i)) ∙ ap (λ (n : ℕ). v / 2 ^ n % 2) (omega arith)
 
 bits_high : (w v i : ℕ) → i ≡ w → get_or (bits_of (suc w) v) i 0 ≡ v / 2 ^ (suc w - suc i) % 2
@@ -27,7 +27,7 @@ get_d_bits_of (suc w) v i h =
 
 unpack_low : (b : ℕ) (bs : List ℕ) (i : ℕ) → i < 8 → get_or (unpack (b ∷ bs)) i 0 ≡ get_or (b ∷ bs) (i / 8) 0 / 2 ^ (7 - i % 8) % 2
 unpack_low b bs i h =
-    get_or_append (bits_of 8 b) (unpack bs) 0 i (subst (λ (n : ℕ). i < n) (sym (length_bits_of 8 b)) h)
+    get_or-append (bits_of 8 b) (unpack bs) 0 i (subst (λ (n : ℕ). i < n) (sym (length_bits_of 8 b)) h)
     ∙ get_d_bits_of 8 b i h
     ∙ ap₂ (λ (k n : ℕ). get_or (b ∷ bs) k 0 / 2 ^ n % 2) {x = 0} {y = i / 8} {u = 8 - suc i} {v = 7 - i % 8} (omega arith) (omega arith)
 

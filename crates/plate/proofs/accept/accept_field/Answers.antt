@@ -72,7 +72,7 @@ returns-in_default c =
     let l = c.loop-left in (
       alternatives_stop a.plate.now l.place l.left c.loop-left-test.true c.accept_alternative.result
           c.accept_alternative.ensures.0 c.in_default.is
-          ∙ l.invariant.1 ∙ field_is a.plate.now a.at c.part-n.result (counted c.before.before.before.before.before.before.before.before.before) c.if-n-lt1.false c.if-n-gt-MOST_ALTERNATIVES.false,
+          ∙ l.invariant.1 ∙ field_is a.plate.now a.at c.part-n.result (counted c.before.before.before.before.before.before.before.before) c.if-n-lt1.false c.if-n-gt-MOST_ALTERNATIVES.false,
       omega arith,
     )
 

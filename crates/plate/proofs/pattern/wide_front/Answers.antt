@@ -26,19 +26,19 @@ whole c =
 pub returns-then-code-eq0 : goal.returns-then-code-eq0
 returns-then-code-eq0 c =
     let a = c.args in
-    decoded-zero a.plate.now a.n a.at (some c.before.before.before.before.before) c.char_from.result (whole c.before.before.before.before.before) c.in-One.code c.in-One.width c.in-One.is c.if-code-eq0.true
+    decoded-zero a.plate.now a.n a.at (some c.before.before.before) c.char_from.result (whole c.before.before.before) c.in-One.code c.in-One.width c.in-One.is c.if-code-eq0.true
 
 pub returns-else-code-eq0 : goal.returns-else-code-eq0
 returns-else-code-eq0 c =
     let a = c.args in
-    decoded_is a.plate.now a.n a.at (some c.before.before.before.before.before) c.char_from.result (whole c.before.before.before.before.before) c.in-One.code c.in-One.width c.in-One.is c.if-code-eq0.false
+    decoded_is a.plate.now a.n a.at (some c.before.before.before) c.char_from.result (whole c.before.before.before) c.in-One.code c.in-One.width c.in-One.is c.if-code-eq0.false
 
 pub returns-in-Bad : goal.returns-in-Bad
 returns-in-Bad c =
     let a = c.args in
-    decoded-bad a.plate.now a.n a.at (some c.before.before.before) c.char_from.result (whole c.before.before.before) c.in-Bad.is
+    decoded-bad a.plate.now a.n a.at (some c.before.before) c.char_from.result (whole c.before.before) c.in-Bad.is
 
 pub returns-in-End : goal.returns-in-End
 returns-in-End c =
     let a = c.args in
-    decoded-end a.plate.now a.n a.at (some c.before.before.before) c.char_from.result (whole c.before.before.before) c.in-End.is
+    decoded-end a.plate.now a.n a.at (some c.before.before) c.char_from.result (whole c.before.before) c.in-End.is

@@ -9,6 +9,6 @@ returns c =
     let less = c.wrapping_sub_u64-less in
     λ e.
     let clear = eqb-true _ 0 e in (
-      low_ascii less.result a.w a.n c.requires.1 clear c.requires.0 (omega arith) (omega arith) less.ensures,
-      all_low less.result a.w a.n c.requires.1 clear c.requires.0 (omega arith) (omega arith) less.ensures,
+      low_ascii less.result a.w a.n c.requires.1 clear c.requires.0 (omega arith) (omega arith) less.ensures.value,
+      all_low less.result a.w a.n c.requires.1 clear c.requires.0 (omega arith) (omega arith) less.ensures.value,
     )

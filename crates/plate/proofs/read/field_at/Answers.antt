@@ -10,6 +10,7 @@ use Rattle.plate.proofs.Parts.{field_eight, alternative_good, place_more, altern
 use Rattle.plate.proofs.read.field_at.Tie as tie
 use Rattle.plate.proofs.read.field_at.Lts as places
 use Rattle.plate.proofs.read.field_at.Reads as reads
+use Rattle.plate.proofs.read.field_at.Invariants.{Kept}
 use Rattle.plate.proofs.read.field_at.Goals as goal
 
 abbrev At-loop : Type 0

@@ -9,6 +9,12 @@ use Rattle.plate.specs.declared.Alternative.{Alternative}
 use Rattle.plate.proofs.Parts.{field_eight, alternative_good, place_more, alternatives_store, field_held}
 use Rattle.plate.proofs.read.field_at.Given as goal
 
+-- What the loop keeps beside its bounds: the place behind the first k alternatives, and these as they are held.
+pub record Kept (plate : List ℕ) (from k place : ℕ) (alternatives : List Alternative) : Type 0 where
+  pub near : place ≤ from + 4 + 31 * k
+  pub behind : place ≡ past (alternative_end plate) k (from + 4)
+  pub held : alternatives ≡ map held_alternative (many (alternative_at plate) (alternative_end plate) k (from + 4)) ++ replicate (most_alternatives - k) (held_alternative [])
+
 abbrev pub invariant-loop-k : goal.invariant-loop-k
 invariant-loop-k l = (l.k ≤ l.n) × (l.n ≤ most_alternatives) × Kept l.plate l.from l.k l.place l.alternatives
 
