@@ -1,0 +1,14 @@
+-- `pen::finish` meets its contract. Zeros fill the last byte, and packing does not see them (Inks.finished). Assumes nothing.
+use mathlib.Core.Path.{refl}
+use native.Mathlib.Omega.{arith}
+use borrow.Author.Rules.{rules}
+use lib.Pow.{pow_pos}
+use Rattle.book.proofs.Inks.{fill_ready, finished}
+use Rattle.book.proofs.pen.finish.Goals as goal
+
+pub put-filled-requires : goal.put-filled-requires
+put-filled-requires c = (omega arith, pow_pos _, fill_ready _ refl c.requires)
+
+pub returns : goal.returns
+returns c =
+    finished _ refl c.requires c.put-filled.ensures (λ k. (c.slice_known-2-1.given k).fits)

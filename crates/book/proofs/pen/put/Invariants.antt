@@ -1,0 +1,18 @@
+-- `pen::put` meets its contract. The loop keeps the bits that stand written and held; a turn moves a whole byte from the pen to the buffer (Inks.byte-turn). Assumes nothing.
+use Prim.Native.Nat.{◌+◌, ◌*◌, ◌-◌, ◌^◌, ◌<◌, ◌≤◌}
+use mathlib.Core.Path.{◌≡◌, refl, ◌∙◌}
+use mathlib.Core.List.{◌++◌}
+use native.Mathlib.Omega.{arith}
+use lib.ListN.{length, take, drop}
+use Rattle.plate.specs.Bits.{bits_of, unpack}
+use Rattle.plate.proofs.Packed.{length_bits_of}
+use Rattle.book.proofs.Inks.{shl_one, shl_pos, joined_lt, fits, byte_lt, byte_turn, not_reached, both_bits}
+use Rattle.book.proofs.pen.put.Given as goal
+
+abbrev pub invariant-loop-count : goal.invariant-loop-count
+invariant-loop-count l =
+    (l.begun < 2 ^ l.count) × (l.count ≤ 31) × (8 * l.at + l.count ≡ 8 * l.initial.at + l.initial.count) × (unpack (take l.at l.out) ++ bits_of l.count l.begun ≡ unpack (take l.initial.at l.initial.out) ++ bits_of l.initial.count l.initial.begun)
+    × (drop l.at l.out ≡ drop l.at l.initial.out) × (length l.out ≡ length l.initial.out) × (8 * l.initial.at + l.initial.count ≤ 8 * length l.initial.out)
+
+abbrev pub decreases-loop-count : goal.decreases-loop-count
+decreases-loop-count l = l.count

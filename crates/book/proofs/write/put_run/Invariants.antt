@@ -1,0 +1,18 @@
+-- `write::put_run` meets its contract. The loop keeps: the bytes so far are written (Inks.each_turn). Assumes nothing.
+use Prim.Native.Nat.{ℕ, ◌-◌, ◌<◌, ◌≤◌, ◌^◌}
+use mathlib.Core.Path.{sym, subst, ap}
+use native.Mathlib.Omega.{arith}
+use borrow.Author.Rules.{rules}
+use lib.ListN.{length, take}
+use Rattle.plate.specs.Bits.{bits_of}
+use Rattle.book.specs.Pen.{Wrote}
+use Rattle.book.specs.Writing.{run_bits}
+use Rattle.book.proofs.Runs.{fitting_at}
+use Rattle.book.proofs.Inks.{wrote_none, wrote_as, ready_as, each_ready, each_turn, each_end}
+use Rattle.book.proofs.write.put_run.Given as goal
+
+abbrev pub invariant-loop-k : goal.invariant-loop-k
+invariant-loop-k l = (l.k ≤ length l.run) × Wrote l.initial.out l.initial.p (run_bits l.less l.width (take l.k l.run)) l.out l.p
+
+abbrev pub decreases-loop-k : goal.decreases-loop-k
+decreases-loop-k l = length l.run - l.k
