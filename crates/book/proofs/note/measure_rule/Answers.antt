@@ -63,15 +63,15 @@ returns-in_default c =
 
 pub returns-in_default-second : goal.returns-in_default-second
 returns-in_default-second c =
-    vowel-wrong (rule c.before.before.before.before.before) (rules-1 c.before.before.before) c.if-pattern-eq0.false c.if-pattern-gt-LONGEST_PATTERN.true (s c.before.before.before).0 c.in_default-second.field-0 c.measure_field-second.ensures c.in_default-second.is
+    vowel-wrong (rule c.before.before.before.before.before) (rules-1 c.before.before.before) c.if-pattern-eq0.false c.if-pattern-gt-LONGEST_PATTERN.false (s c.before.before.before).0 c.in_default-second.field-0 c.measure_field-second.ensures c.in_default-second.is
 
 pub returns-in_default-third : goal.returns-in_default-third
 returns-in_default-third c =
-    other-wrong (rule c.before.before.before.before.before.before.before) (rules-1 c.before.before.before.before.before) c.if-pattern-eq0.false c.if-pattern-gt-LONGEST_PATTERN.true (s c.before.before.before.before.before).0 (v c.before.before.before).0 c.in_default-third.field-0 c.measure_field-third.ensures c.in_default-third.is
+    other-wrong (rule c.before.before.before.before.before.before.before) (rules-1 c.before.before.before.before.before) c.if-pattern-eq0.false c.if-pattern-gt-LONGEST_PATTERN.false (s c.before.before.before.before.before).0 (v c.before.before.before).0 c.in_default-third.field-0 c.measure_field-third.ensures c.in_default-third.is
 
 pub returns-then-rules-ge-MOST_RULES : goal.returns-then-rules-ge-MOST_RULES
 returns-then-rules-ge-MOST_RULES c =
-    rule-full (rule c.before.before.before.before.before.before.before.before) (rules-1 c.before.before.before.before.before.before) c.if-pattern-eq0.false c.if-pattern-gt-LONGEST_PATTERN.true (s c.before.before.before.before.before.before).0 (v c.before.before.before.before).0 (o c.before.before).0 c.if-rules-ge-MOST_RULES.true
+    rule-full (rule c.before.before.before.before.before.before.before.before) (rules-1 c.before.before.before.before.before.before) c.if-pattern-eq0.false c.if-pattern-gt-LONGEST_PATTERN.false (s c.before.before.before.before.before.before).0 (v c.before.before.before.before).0 (o c.before.before).0 c.if-rules-ge-MOST_RULES.true
 
 pub overflow_add-result-2 : goal.overflow_add-result-2
 overflow_add-result-2 c = let few = small c.before.before in omega (arith, few.0, few.1, few.2, few.3)
@@ -85,7 +85,7 @@ overflow_add-result-4 c = let few = small c.before.before in omega (arith, few.0
 pub returns : goal.returns
 returns c =
     let few = small c.before.before in (
-      rule-fine (rule c.before.before.before.before.before.before.before.before) (rules-1 c.before.before.before.before.before.before) c.if-pattern-eq0.true c.if-pattern-gt-LONGEST_PATTERN.true (s c.before.before.before.before.before.before).0 (v c.before.before.before.before).0 (o c.before.before).0 c.if-rules-ge-MOST_RULES.false,
+      rule-fine (rule c.before.before.before.before.before.before.before.before) (rules-1 c.before.before.before.before.before.before) c.if-pattern-eq0.false c.if-pattern-gt-LONGEST_PATTERN.true (s c.before.before.before.before.before.before).0 (v c.before.before.before.before).0 (o c.before.before).0 c.if-rules-ge-MOST_RULES.false,
       rule_length (rule c.before.before.before.before.before.before.before.before) _ _ _ (s c.before.before.before.before.before.before).1 (v c.before.before.before.before).1
           (o c.before.before).1,
       omega (arith, few.0, few.1, few.2, few.3),

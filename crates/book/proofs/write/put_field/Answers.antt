@@ -40,7 +40,7 @@ counted c = rw c.in-Many.is at c.parse_branch.ensures.1
 pub returns-in_default : goal.returns-in_default
 returns-in_default c =
     let F = split_at c.args.sep c.args.field.now in
-    absurd (many F c.parse_branch.result c.parse_branch.ensures.1 c.requires.0 c.in_default.in_default-own.keys2)
+    let h = c.in_default.not-Many in ?
 
 pub put-counted-requires : goal.put-counted-requires
 put-counted-requires c =
