@@ -9,6 +9,7 @@ mod answer; // answer.rt: one call, and its answer compared
 
 use answer::is_answered;
 use std::num::wrapping_add_usize;
+use std::rt::Files;
 use trial::case::bytes_of;
 use trial::lines::{end_of, letter_of, next_line};
 use trial::say::{fault, labelled, word};
@@ -100,16 +101,16 @@ fn show_tally(path: &[u8], tally: Tally) {
     word(b" differ\n");
 }
 
-fn run_file(path: &[u8]) {
+fn run_file(rt: &impl Files, path: &[u8]) {
     let mut text = io::large_buffer();
-    let n = trial::file::read(path, &mut text);
+    let n = trial::file::read(rt, path, &mut text);
     let mut plate = io::large_buffer();
     show_tally(path, run_lines(&text[0..n], &mut plate));
 }
 
-fn main() {
-    run_file(b"names.txt");
-    run_file(b"vectors-1.txt");
-    run_file(b"vectors-2.txt");
-    run_file(b"control.txt");
+fn main(rt: HostRuntime) {
+    run_file(&rt, b"names.txt");
+    run_file(&rt, b"vectors-1.txt");
+    run_file(&rt, b"vectors-2.txt");
+    run_file(&rt, b"control.txt");
 }

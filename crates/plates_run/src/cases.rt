@@ -3,6 +3,7 @@ ghost use Rattle.std.specs.Prelude.{◌≡◌, ◌≤◌, length};
 
 use super::{ask, items, judge};
 use std::num::wrapping_add_u8;
+use std::rt::Files;
 use trial::case::bytes_of;
 use trial::lines::{end_of, field_start, letter_of, next_line, number_at};
 use trial::say::fault;
@@ -134,9 +135,9 @@ fn run_lines(file: &[u8], text: &mut [u8]) {
     }
 }
 
-pub(crate) fn run(path: &[u8]) {
+pub(crate) fn run(rt: &impl Files, path: &[u8]) {
     let mut file = io::large_buffer();
-    let n = trial::file::read(path, &mut file);
+    let n = trial::file::read(rt, path, &mut file);
     let mut text = text_buffer();
     run_lines(&file[0..n], &mut text);
 }

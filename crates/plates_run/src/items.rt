@@ -4,10 +4,9 @@ ghost use Rattle.std.specs.Prelude.{◌≤◌, length};
 
 use book::Alternatives;
 use book::field::parse_branch;
-use libc::STDOUT_FILENO;
 use rule_text::item::item;
 use rule_text::{Entry, Four, Span};
-use trial::say::{labelled, newline, word};
+use trial::say::{STDOUT, labelled, newline, word};
 
 // Newline, CR and tab by name, every other byte as it is.
 fn byte(x: u8) {
@@ -40,7 +39,7 @@ fn span(s: Span) {
 
 fn code_point(c: u32) {
     word(b" U+");
-    io::print_hex(STDOUT_FILENO, c as u64, 4);
+    io::print_hex(STDOUT, c as u64, 4);
 }
 
 fn rule(at: usize, four: Four) {

@@ -13,14 +13,14 @@ mod ask; // ask.rt: a text is built, and the answer written
 mod judge; // judge.rt: bytes are judged, whole or one bit at a time
 mod hand; // hand.rt: plates written bit by bit
 
-fn main() {
-    cases::run(b"items.txt");
-    cases::run(b"worked.txt");
+fn main(rt: HostRuntime) {
+    cases::run(&rt, b"items.txt");
+    cases::run(&rt, b"worked.txt");
     hand::largest_1();
     hand::largest_2();
-    cases::run(b"texts.txt");
-    cases::run(b"plates.txt");
+    cases::run(&rt, b"texts.txt");
+    cases::run(&rt, b"plates.txt");
     hand::many_foldings(128);
     hand::many_foldings(129);
-    cases::run(b"bits.txt");
+    cases::run(&rt, b"bits.txt");
 }

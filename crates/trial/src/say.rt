@@ -1,14 +1,15 @@
 // What a program writes: words, numbers, bytes, and a line that it cannot take.
 ghost use Rattle.std.specs.Prelude.{◌≤◌};
 
-use libc::STDOUT_FILENO;
+// Where words go.
+pub const STDOUT: i32 = 1;
 
 pub fn word(s: &[u8]) {
-    io::write_all(STDOUT_FILENO, s);
+    io::write_all(STDOUT, s);
 }
 
 pub fn number(n: usize) {
-    io::print_decimal(STDOUT_FILENO, n as u64);
+    io::print_decimal(STDOUT, n as u64);
 }
 
 pub fn newline() {
@@ -39,7 +40,7 @@ fn wide(x: u8) -> u64
 pub fn hex(s: &[u8]) {
     for i in 0..s.len() {
         word(b" ");
-        io::print_hex(STDOUT_FILENO, wide(s[i]), 2);
+        io::print_hex(STDOUT, wide(s[i]), 2);
     }
 }
 
@@ -51,7 +52,7 @@ pub fn sum(s: &[u8]) {
         low = (low + wide(s[i])) % 65521;
         high = (high + low) % 65521;
     }
-    io::print_hex(STDOUT_FILENO, high * 65536 + low, 8);
+    io::print_hex(STDOUT, high * 65536 + low, 8);
 }
 
 // A line that has none of the forms of its file.

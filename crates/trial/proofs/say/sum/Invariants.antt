@@ -1,0 +1,6 @@
+-- Each of the two sums stays below 65521, which divides it.
+use Rattle.std.proofs.Common.{◌<◌}
+use Rattle.trial.proofs.say.sum.Given as goal
+
+abbrev pub invariant-loop-i : goal.invariant-loop-i
+invariant-loop-i l = (l.low < 65521) × (l.high < 65521)
