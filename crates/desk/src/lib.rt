@@ -3,18 +3,18 @@
 
 mod help; // help.rt: the page
 
-use files::read::fill_gaps;
+use files::read::{Source, fill_gaps};
 use front::options::{NOTHING, Scan, all, tell};
 use front::out::{ANSWERED, DESK, Pen, answers, flush, put};
 use front::rooms::{chunk_room, out_room, part, plate_room};
-use libc::{STDIN_FILENO, STDOUT_FILENO};
 use names::Way;
 use names::given::load;
 use names::lines::{Input, answer_all};
+use std::io::IsTerminal;
 
 // A person sits at the desk: what is typed and what is answered are on a terminal.
-fn is_person() -> bool {
-    libc::isatty(STDIN_FILENO) == 1 && libc::isatty(STDOUT_FILENO) == 1
+fn is_person(rt: &HostRuntime) -> bool {
+    rt.stdin().is_terminal() && rt.stdout().is_terminal()
 }
 
 fn greet(out: &mut [u8], pen: Pen, prompt: bool) -> Pen {
@@ -36,12 +36,13 @@ fn part_from(out: &mut [u8], pen: Pen, prompt: bool) -> Pen {
     pen
 }
 
-fn serve(plate: &[u8]) -> i32 {
-    let prompt = is_person();
+fn serve(rt: &HostRuntime, plate: &[u8]) -> i32 {
+    let prompt = is_person(rt);
     let mut out = out_room();
-    let pen = greet(&mut out, answers(DESK), prompt);
+    let pen = greet(&mut out, answers(rt, DESK), prompt);
+    let source = Source::Standard(rt.stdin());
     let from = Input {
-        fd: STDIN_FILENO,
+        source: &source,
         prompt: prompt,
     };
     let way = Way {
@@ -56,41 +57,41 @@ fn serve(plate: &[u8]) -> i32 {
     pen.status
 }
 
-fn serve_by(s: Scan) -> i32 {
+fn serve_by(rt: &HostRuntime, s: Scan) -> i32 {
     let mut plate = plate_room();
-    let given = load(DESK, s.plate, &mut plate);
+    let given = load(rt, DESK, s.plate, &mut plate);
     if given.status != ANSWERED {
         return given.status;
     }
     let n = given.count;
-    serve(part(&plate, 0, n))
+    serve(rt, part(&plate, 0, n))
 }
 
-fn misplaced(i: usize) -> i32 {
-    tell(DESK, NOTHING, i, b"; desk --help tells more\n")
+fn misplaced(rt: &HostRuntime, i: usize) -> i32 {
+    tell(rt, DESK, NOTHING, i, b"; desk --help tells more\n")
 }
 
 // The status of the process.
-pub fn run() -> i32 {
-    fill_gaps();
-    let s = all();
+pub fn run(rt: &HostRuntime) -> i32 {
+    fill_gaps(rt);
+    let s = all(rt);
     if s.fault != NOTHING {
-        return tell(DESK, s.fault, s.at, b"; desk --help tells more\n");
+        return tell(rt, DESK, s.fault, s.at, b"; desk --help tells more\n");
     }
     if s.help {
-        return help::page();
+        return help::page(rt);
     }
     if s.version {
-        return help::version();
+        return help::version(rt);
     }
     if s.first != 0 {
-        return tell(DESK, NOTHING, s.first, b"; desk --help tells more\n");
+        return tell(rt, DESK, NOTHING, s.first, b"; desk --help tells more\n");
     }
     if s.names != 0 {
-        return misplaced(s.names);
+        return misplaced(rt, s.names);
     }
     if s.flat != 0 {
-        return misplaced(s.flat);
+        return misplaced(rt, s.flat);
     }
-    serve_by(s)
+    serve_by(rt, s)
 }

@@ -1,6 +1,6 @@
 // Runs desk in the gate, whose programs have no status.
 #![tactic(auto)]
 
-fn main() {
-    desk::run();
+fn main(rt: HostRuntime) {
+    desk::run(&rt);
 }

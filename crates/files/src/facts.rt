@@ -1,5 +1,13 @@
 // What the system knows of an open file.
-use libc::types::{stat, timespec};
+use super::read::Source;
+use std::fs::{File, Metadata, metadata};
+use std::io::Result;
+use std::os::unix::fs::MetadataExt;
+
+// The kind among the bits of a mode, and that of a file.
+const S_IFMT: u32 = 0o170000;
+
+const S_IFREG: u32 = 0o100000;
 
 // Two open files are the same file if device and number are equal. The kind is among the bits of the mode. Nothing is known where the mode is 0.
 #[derive(Clone, Copy)]
@@ -11,52 +19,45 @@ pub struct Facts {
     pub group: u32,
 }
 
-fn no_time() -> timespec {
-    timespec {
-        tv_sec: 0,
-        tv_nsec: 0,
-    }
-}
-
-fn blank() -> stat {
-    stat {
-        st_dev: 0,
-        st_ino: 0,
-        st_nlink: 0,
-        st_mode: 0,
-        st_uid: 0,
-        st_gid: 0,
-        __pad: 0,
-        st_rdev: 0,
-        st_size: 0,
-        st_blksize: 0,
-        st_blocks: 0,
-        st_atim: no_time(),
-        st_mtim: no_time(),
-        st_ctim: no_time(),
-        __unused: [0; 3],
-    }
-}
-
-// What fstat lays into it; it stays as it is where fstat fails.
-fn filled(fd: i32, mut s: stat) -> stat {
-    libc::fstat(fd, &mut s);
-    s
-}
-
-pub fn look(fd: i32) -> Facts {
-    let s = filled(fd, blank());
+fn blank() -> Facts {
     Facts {
-        device: s.st_dev,
-        number: s.st_ino,
-        mode: s.st_mode,
-        owner: s.st_uid,
-        group: s.st_gid,
+        device: 0,
+        number: 0,
+        mode: 0,
+        owner: 0,
+        group: 0,
+    }
+}
+
+// What the system tells; nothing where it does not.
+fn filled(told: Result<Metadata>) -> Facts {
+    match told {
+        Ok(told) => Facts {
+            device: told.dev(),
+            number: told.ino(),
+            mode: told.mode(),
+            owner: told.uid(),
+            group: told.gid(),
+        },
+        Err(_) => blank(),
+    }
+}
+
+// Of a file that was opened by its path.
+pub fn look_at(file: &File) -> Facts {
+    filled(file.metadata())
+}
+
+// Of what names are read from. std tells nothing of standard input, so the system is asked for what stands behind its number.
+pub fn look(rt: &HostRuntime, from: &Source) -> Facts {
+    match from {
+        Source::Standard(_) => filled(metadata(rt, "/proc/self/fd/0")),
+        Source::Opened(file) => look_at(file),
     }
 }
 
 pub fn is_file(f: Facts) -> bool {
-    f.mode & libc::S_IFMT == libc::S_IFREG
+    f.mode & S_IFMT == S_IFREG
 }
 
 // Whether both are one and the same file. Of a terminal, a pipe or a device that is no harm, so it is asked of files alone.

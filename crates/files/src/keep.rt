@@ -1,12 +1,21 @@
 // Bytes kept in a file as careful tools do: under a fresh name beside the real file, which then takes its name, with its mode and owner; a full disk or a
 // pulled plug leaves what was there. Links stay. A device or a pipe is written to. Never over the input.
-use super::facts::{Facts, is_file, is_same, look};
+use super::facts::{Facts, is_file, is_same, look_at};
 use super::links::{beside, is_link, is_open, resolve};
+use super::system::{create, open_append, rename, unlink};
 use super::tell::{tell_file, tell_path};
 use check::same;
-use front::out::{ANSWERED, FAULT};
+use front::out::ANSWERED;
 use front::rooms::{lay, name_room, part};
-use libc::STDOUT_FILENO;
+use std::fs::{File, Permissions};
+use std::io::{Error, Result, Write};
+use std::os::unix::fs::{PermissionsExt, fchown};
+use std::random::RandomSource;
+
+// The system's numbers of a file that is not there, and of one that is not open.
+const ENOENT: i32 = 2;
+
+const EBADF: i32 = 9;
 
 // The bits of a mode that fchmod takes.
 const PERMISSIONS: u32 = 0o7777;
@@ -17,9 +26,9 @@ fn letter(b: u8) -> u8 {
 }
 
 // A name that no other run takes: `.new-` and random letters. The file is made only where nobody has one of this name.
-fn fresh_name(name: &mut [u8]) -> usize {
+fn fresh_name(rt: &HostRuntime, name: &mut [u8]) -> usize {
     let mut random = [0u8; 16];
-    libc::getentropy(&mut random);
+    let _ = rt.fill_bytes(&mut random);
     let n = lay(b".new-", name);
     add_letters(name, n, &random)
 }
@@ -38,95 +47,158 @@ fn add_letters(name: &mut [u8], from: usize, random: &[u8; 16]) -> usize {
 }
 
 // A file as it was: its owner, where the system allows it, and its mode. Of the file that there was not, nothing is known.
-fn dress(fd: i32, was: Facts) -> bool {
+fn dress(file: &File, was: Facts) -> Result<()> {
     if was.mode == 0 {
-        return true;
+        return Ok(());
     }
-    let is = look(fd);
+    let is = look_at(file);
     if is.owner != was.owner || is.group != was.group {
-        libc::fchown(fd, was.owner, was.group);
+        let _ = fchown(file, Some(was.owner), Some(was.group));
     }
-    libc::fchmod(fd, was.mode & PERMISSIONS) == 0
+    file.set_permissions(Permissions::from_mode(was.mode & PERMISSIONS))
+}
+
+// All bytes to a file.
+fn write_all(file: &File, bytes: &[u8]) -> Result<()> {
+    let mut to: &File = file;
+    to.write_all(bytes)
 }
 
 // The bytes whole and on the disk.
-fn is_written(fd: i32, bytes: &[u8], was: Facts) -> bool {
-    io::write_all(fd, bytes) && dress(fd, was) && libc::fsync(fd) == 0
+fn is_written(file: &File, bytes: &[u8], was: Facts) -> Result<()> {
+    write_all(file, bytes)?;
+    dress(file, was)?;
+    file.sync_all()
+}
+
+// The same, and the file then takes the name that it is to have.
+fn put_in_place(
+    rt: &HostRuntime,
+    path: &[u8],
+    new: &[u8],
+    file: &File,
+    bytes: &[u8],
+    was: Facts,
+) -> Result<()> {
+    is_written(file, bytes, was)?;
+    rename(rt, new, path)
 }
 
 // Writes the new file and lets it take the name.
-fn replace_by(who: u8, shown: &[u8], path: &[u8], new: &[u8], bytes: &[u8], was: Facts) -> i32 {
-    let fd = os::create(new);
-    if fd < 0 {
-        return tell_path(who, shown);
+fn replace_by(
+    rt: &HostRuntime,
+    who: u8,
+    shown: &[u8],
+    path: &[u8],
+    new: &[u8],
+    bytes: &[u8],
+    was: Facts,
+) -> i32 {
+    let file = match create(rt, new) {
+        Ok(file) => file,
+        Err(error) => return tell_path(rt, who, shown, error),
+    };
+    match put_in_place(rt, path, new, &file, bytes, was) {
+        Ok(()) => ANSWERED,
+        Err(error) => {
+            let status = tell_path(rt, who, shown, error);
+            drop(file);
+            let _ = unlink(rt, new);
+            status
+        }
     }
-    if is_written(fd, bytes, was) && os::rename(new, path) == 0 {
-        libc::close(fd);
-        return ANSWERED;
-    }
-    tell_path(who, shown);
-    libc::close(fd);
-    os::unlink(new);
-    FAULT
 }
 
-fn replace(who: u8, shown: &[u8], path: &[u8], bytes: &[u8], was: Facts) -> i32 {
+fn replace(rt: &HostRuntime, who: u8, shown: &[u8], path: &[u8], bytes: &[u8], was: Facts) -> i32 {
     let mut name = name_room();
-    let k = fresh_name(&mut name);
+    let k = fresh_name(rt, &mut name);
     let mut new = io::buffer();
     let n = beside(path, part(&name, 0, k), &mut new);
-    replace_by(who, shown, path, part(&new, 0, n), bytes, was)
+    replace_by(rt, who, shown, path, part(&new, 0, n), bytes, was)
 }
 
 // Whether a path without links leads to the file that was there, if there was one.
-fn is_real(path: &[u8], was: Facts) -> bool {
-    if is_link(path) {
+fn is_real(rt: &HostRuntime, path: &[u8], was: Facts) -> bool {
+    if is_link(rt, path) {
         return false;
     }
     if was.mode == 0 {
         return true;
     }
-    let fd = os::open_append(path);
-    let is = look(fd);
-    libc::close(fd);
-    is_same(was, is)
+    match open_append(rt, path) {
+        Ok(file) => is_same(was, look_at(&file)),
+        Err(_) => false,
+    }
 }
 
 // The real file of a path, behind its links. What this process has open is written to, at its end.
-fn keep_behind(who: u8, path: &[u8], fd: i32, bytes: &[u8], was: Facts) -> i32 {
+fn keep_behind(
+    rt: &HostRuntime,
+    who: u8,
+    path: &[u8],
+    file: Option<&File>,
+    bytes: &[u8],
+    was: Facts,
+) -> i32 {
     let mut real = io::buffer();
     let n = lay(path, &mut real);
-    let m = resolve(&mut real, n);
+    let m = resolve(rt, &mut real, n);
     if is_open(part(&real, 0, m)) {
-        return write_to_device(who, path, fd, bytes);
+        return write_to_device(rt, who, path, file, bytes);
     }
-    if !is_real(part(&real, 0, m), was) {
-        return tell_file(who, path, b"the file behind its links is not found");
+    if !is_real(rt, part(&real, 0, m), was) {
+        return tell_file(rt, who, path, b"the file behind its links is not found");
     }
-    replace(who, path, part(&real, 0, m), bytes, was)
+    replace(rt, who, path, part(&real, 0, m), bytes, was)
 }
 
-fn write_to_device(who: u8, path: &[u8], fd: i32, bytes: &[u8]) -> i32 {
-    if io::write_all(fd, bytes) {
+fn status_of(rt: &HostRuntime, who: u8, path: &[u8], done: Result<()>) -> i32 {
+    match done {
+        Ok(()) => ANSWERED,
+        Err(error) => tell_path(rt, who, path, error),
+    }
+}
+
+// Where nothing is open, bytes cannot be written.
+fn write_to_device(
+    rt: &HostRuntime,
+    who: u8,
+    path: &[u8],
+    file: Option<&File>,
+    bytes: &[u8],
+) -> i32 {
+    if bytes.is_empty() {
         return ANSWERED;
     }
-    tell_path(who, path)
+    let done = match file {
+        Some(file) => write_all(file, bytes),
+        None => Err(Error::from_raw_os_error(EBADF)),
+    };
+    status_of(rt, who, path, done)
 }
 
 // What stands at the path already is a file, or a device or a pipe.
-fn keep_over(who: u8, path: &[u8], fd: i32, bytes: &[u8], input: Facts) -> i32 {
-    let was = look(fd);
+fn keep_over(
+    rt: &HostRuntime,
+    who: u8,
+    path: &[u8],
+    file: &File,
+    bytes: &[u8],
+    input: Facts,
+) -> i32 {
+    let was = look_at(file);
     if is_same(was, input) {
         return tell_file(
+            rt,
             who,
             path,
             b"this is the file that is read, and is not written over",
         );
     }
     if is_file(was) {
-        return keep_behind(who, path, fd, bytes, was);
+        return keep_behind(rt, who, path, Some(file), bytes, was);
     }
-    write_to_device(who, path, fd, bytes)
+    write_to_device(rt, who, path, Some(file), bytes)
 }
 
 fn nothing() -> Facts {
@@ -139,19 +211,26 @@ fn nothing() -> Facts {
     }
 }
 
+// No file could be opened at the path. Where none is there, one is made.
+fn keep_new(rt: &HostRuntime, who: u8, path: &[u8], bytes: &[u8], error: Error) -> i32 {
+    if error.raw_os_error() != Some(ENOENT) {
+        return tell_path(rt, who, path, error);
+    }
+    keep_behind(rt, who, path, None, bytes, nothing())
+}
+
 // Keeps bytes in the file at a path, and answers the status. `-` is standard output. `input` is what is known of the file that they were made from.
-pub fn keep(who: u8, path: &[u8], bytes: &[u8], input: Facts) -> i32 {
+pub fn keep(rt: &HostRuntime, who: u8, path: &[u8], bytes: &[u8], input: Facts) -> i32 {
     if same(path, b"-") {
-        return write_to_device(who, b"standard output", STDOUT_FILENO, bytes);
+        return status_of(
+            rt,
+            who,
+            b"standard output",
+            Print::write_all(&rt.stdout(), bytes),
+        );
     }
-    let fd = os::open_append(path);
-    if 0 <= fd {
-        let status = keep_over(who, path, fd, bytes, input);
-        libc::close(fd);
-        return status;
+    match open_append(rt, path) {
+        Ok(file) => keep_over(rt, who, path, &file, bytes, input),
+        Err(error) => keep_new(rt, who, path, bytes, error),
     }
-    if os::errno() != libc::ENOENT {
-        return tell_path(who, path);
-    }
-    keep_behind(who, path, fd, bytes, nothing())
 }

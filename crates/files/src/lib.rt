@@ -1,6 +1,7 @@
 // Files: one read whole, and one written as careful tools do.
 #![tactic(auto)]
 
+pub mod system; // system.rt: what the system is asked for by a path
 pub mod tell; // tell.rt: what is said where something cannot be done
 pub mod read; // read.rt: a file read whole
 pub mod facts; // facts.rt: what the system knows of an open file

@@ -1,35 +1,32 @@
 // Where a path leads through symbolic links, and names in a path's folder.
 ghost use Rattle.std.specs.Prelude.{◌≤◌, length};
-ghost use Rattle.libc.specs.Io.{Ended};
 
+use super::system::text;
 use front::rooms::{begins, byte, lay, part};
-use libc::PATH_MAX;
-
-const LAST: usize = PATH_MAX - 1;
+use std::fs::{read_link, symlink_metadata};
 
 // As many links as the system itself follows.
 const MOST_LINKS: usize = 40;
 
-// A path for C: the bytes, then zeros. One that is too long, or holds a zero byte, was refused by an open before.
-fn ended(path: &[u8]) -> [u8; PATH_MAX]
-    ensures { Ended result }
-{
-    let mut ended = io::buffer();
-    lay(path, &mut ended);
-    ended[LAST] = 0;
-    ended
+// What a link says, and 0 bytes where the path is no link, or what it says is no UTF-8.
+fn link_text(rt: &HostRuntime, path: &[u8], into: &mut [u8]) -> usize {
+    let Ok(path) = text(path) else {
+        return 0;
+    };
+    match read_link(rt, path) {
+        Ok(to) => lay(to.as_str().as_bytes(), into),
+        Err(_) => 0,
+    }
 }
 
-// What a link says, and 0 bytes where the path is no link.
-fn link_text(path: &[u8], into: &mut [u8]) -> usize {
-    let path = ended(path);
-    let got = libc::readlink(&path, into);
-    io::count(got, into)
-}
-
-pub fn is_link(path: &[u8]) -> bool {
-    let mut text = io::buffer();
-    link_text(path, &mut text) != 0
+pub fn is_link(rt: &HostRuntime, path: &[u8]) -> bool {
+    let Ok(path) = text(path) else {
+        return false;
+    };
+    match symlink_metadata(rt, path) {
+        Ok(told) => told.is_symlink(),
+        Err(_) => false,
+    }
 }
 
 // How many bytes of a path name its folder, the slash included.
@@ -59,9 +56,9 @@ pub fn beside(path: &[u8], name: &[u8], into: &mut [u8]) -> usize {
 }
 
 // Follows the link at a path, if it is one: the new path, and 0 bytes where it is none or the new one is too long.
-fn follow(path: &[u8], into: &mut [u8]) -> usize {
+fn follow(rt: &HostRuntime, path: &[u8], into: &mut [u8]) -> usize {
     let mut text = io::buffer();
-    let n = link_text(path, &mut text);
+    let n = link_text(rt, path, &mut text);
     if byte(&text, 0) == b'/' {
         return lay(part(&text, 0, n), into);
     }
@@ -72,9 +69,9 @@ fn follow(path: &[u8], into: &mut [u8]) -> usize {
 }
 
 // One link more; answers the length of the path then, the same where it is no link.
-fn follow_once(path: &mut [u8], n: usize) -> usize {
+fn follow_once(rt: &HostRuntime, path: &mut [u8], n: usize) -> usize {
     let mut further = io::buffer();
-    let m = follow(part(path, 0, n), &mut further);
+    let m = follow(rt, part(path, 0, n), &mut further);
     if m == 0 {
         return n;
     }
@@ -87,13 +84,13 @@ pub fn is_open(path: &[u8]) -> bool {
 }
 
 // Follows links until there is none, or the path names something open; answers the length of the path then.
-pub fn resolve(path: &mut [u8], used: usize) -> usize {
+pub fn resolve(rt: &HostRuntime, path: &mut [u8], used: usize) -> usize {
     let mut n = used;
-    for i in 0..MOST_LINKS {
+    for _ in 0..MOST_LINKS {
         if is_open(part(path, 0, n)) {
             return n;
         }
-        n = follow_once(path, n);
+        n = follow_once(rt, path, n);
     }
     n
 }

@@ -1,18 +1,33 @@
 // A file read whole, and the three files that a program is started with.
+ghost use Rattle.std.specs.Io.{ReadsAtMost};
+
+use super::system::{open_append, open_read};
 use super::tell::tell_path;
 use check::same;
-use libc::STDIN_FILENO;
+use std::fs::File;
+use std::io::{Read, Result};
+use std::os::fd::{AsRawFd, IntoRawFd};
+use std::rt::Stdin;
 
-// Opens a file to read; tells why it cannot, and answers -1. `-` is standard input.
-pub fn open(who: u8, path: &[u8]) -> i32 {
+// What is read from: standard input, or a file that was opened, which is closed where it is dropped.
+#[derive(Drop)]
+pub enum Source {
+    Standard(Stdin),
+    Opened(File),
+}
+
+// Opens a file to read; tells why it cannot, and answers none. `-` is standard input.
+pub fn open(rt: &HostRuntime, who: u8, path: &[u8]) -> Option<Source> {
     if same(path, b"-") {
-        return STDIN_FILENO;
+        return Some(Source::Standard(rt.stdin()));
     }
-    let fd = os::open_read(path);
-    if fd < 0 {
-        tell_path(who, path);
+    match open_read(rt, path) {
+        Ok(file) => Some(Source::Opened(file)),
+        Err(error) => {
+            tell_path(rt, who, path, error);
+            None
+        }
     }
-    fd
 }
 
 // How many bytes were read, and whether that went without a fault.
@@ -30,69 +45,79 @@ fn whole(n: usize) -> Got {
 }
 
 // One read: no bytes at the end.
-fn read_once(fd: i32, into: &mut [u8]) -> Got {
-    let got = libc::read(fd, into);
-    Got {
-        count: io::count(got, into),
-        is_read: 0 <= got,
+pub fn read_once(from: &Source, into: &mut [u8]) -> Result<usize>
+    ensures { ReadsAtMost result into.new }
+{
+    match from {
+        Source::Standard(input) => {
+            let mut input = *input;
+            input.read(into)
+        }
+        Source::Opened(file) => {
+            let mut file: &File = file;
+            file.read(into)
+        }
     }
 }
 
-// Reads up to the end, or as far as there is room. A directory, for one, opens and cannot be read.
-pub fn read(who: u8, path: &[u8], fd: i32, into: &mut [u8]) -> Got {
+// Reads up to the end, or as far as there is room. A directory, for one, opens and cannot be read. Each turn reads a byte or more, so there are no more
+// turns than there is room.
+pub fn read(rt: &HostRuntime, who: u8, path: &[u8], from: &Source, into: &mut [u8]) -> Got {
     let mut n: usize = 0;
-    while n < into.len() {
-        let more = read_once(fd, &mut into[n..]);
-        if !more.is_read {
-            tell_path(who, path);
-            return Got {
-                count: n,
-                is_read: false,
-            };
-        }
-        if more.count == 0 {
+    for _ in 0..into.len() {
+        if into.len() <= n {
             return whole(n);
         }
-        if into.len() - n < more.count {
-            return whole(n);
+        match read_once(from, &mut into[n..]) {
+            Ok(0) => return whole(n),
+            Ok(more) => n += more,
+            Err(error) => {
+                tell_path(rt, who, path, error);
+                return Got {
+                    count: n,
+                    is_read: false,
+                };
+            }
         }
-        n += more.count;
     }
     whole(n)
 }
 
 // Opens a file, reads it and closes it.
-pub fn read_path(who: u8, path: &[u8], into: &mut [u8]) -> Got {
-    let fd = open(who, path);
-    if fd < 0 {
-        return Got {
+pub fn read_path(rt: &HostRuntime, who: u8, path: &[u8], into: &mut [u8]) -> Got {
+    match open(rt, who, path) {
+        Some(from) => read(rt, who, path, &from, into),
+        None => Got {
             count: 0,
             is_read: false,
-        };
+        },
     }
-    let got = read(who, path, fd, into);
-    libc::close(fd);
-    got
 }
 
 // Whether the lowest number that is free was that of an output, which is filled then.
-fn fill_gap() -> bool {
-    let fd = os::open_read(b"/dev/null");
-    if fd < 0 || 2 < fd {
-        libc::close(fd);
+fn fill_gap(rt: &HostRuntime) -> bool {
+    match open_read(rt, b"/dev/null") {
+        Ok(file) => keep_open(file, 2),
+        Err(_) => false,
+    }
+}
+
+// A file stays open where its number is so low; else it is closed.
+fn keep_open(file: File, most: i32) -> bool {
+    if most < file.as_raw_fd() {
         return false;
     }
+    file.into_raw_fd();
     true
 }
 
 // A program that is started without standard input, output or error would be handed their numbers by the next open, and then write messages into a plate.
 // So they are filled: the first by what can only be written, the others by what can only be read, so that their use is a fault.
-pub fn fill_gaps() {
-    let first = os::open_append(b"/dev/null");
-    if first != 0 {
-        libc::close(first);
+pub fn fill_gaps(rt: &HostRuntime) {
+    if let Ok(first) = open_append(rt, b"/dev/null") {
+        keep_open(first, 0);
     }
-    if fill_gap() {
-        fill_gap();
+    if fill_gap(rt) {
+        fill_gap(rt);
     }
 }

@@ -5,6 +5,9 @@ use super::out::{FAULT, Pen, flush, note, put, put_who};
 use super::rooms::{begins, byte, note_room};
 use super::show::put_name;
 use check::same;
+use std::env::FillError;
+use std::io::Error;
+use std::rt::Env;
 
 // What an argument is, as long as options are not ended.
 pub const OPERAND: u8 = 0;
@@ -201,26 +204,36 @@ fn step(s: Scan, i: usize, word: &[u8]) -> Scan {
 }
 
 // The argument at a place more.
-pub fn next(s: Scan, i: usize) -> Scan {
+pub fn next(rt: &HostRuntime, s: Scan, i: usize) -> Scan {
     let mut word = io::buffer();
-    let n = os::arg(i, &mut word);
-    if os::errno() != 0 {
+    match rt.arg(i, &mut word) {
+        Ok(n) => step(s, i, &word[..n]),
         // It is longer than the buffer, and its front tells what it is.
-        return step(s, i, &word);
+        Err(_) => step(s, i, &word),
     }
-    step(s, i, &word[..n])
+}
+
+// How many arguments there are, the program's name among them.
+pub fn arg_count(rt: &HostRuntime) -> usize {
+    let mut front = [0u8; 1];
+    for i in 0..usize::MAX {
+        if let Err(FillError::NotPresent) = rt.arg(i, &mut front) {
+            return i;
+        }
+    }
+    usize::MAX
 }
 
 // All arguments behind the program's name.
-pub fn all() -> Scan {
+pub fn all(rt: &HostRuntime) -> Scan {
     let mut s = none();
     let mut last: usize = 0;
-    let end = os::arg_count();
+    let end = arg_count(rt);
     if end <= 1 {
         return s;
     }
     for i in 1..end {
-        s = next(s, i);
+        s = next(rt, s, i);
         last = i;
     }
     if s.waits {
@@ -240,9 +253,9 @@ fn fault_words(out: &mut [u8], pen: Pen, fault: u8) -> Pen {
 }
 
 // Tells what is wrong with a word of the command line; the status of a fault of use.
-pub fn tell_word(who: u8, fault: u8, word: &[u8], tip: &[u8]) -> i32 {
+pub fn tell_word(rt: &HostRuntime, who: u8, fault: u8, word: &[u8], tip: &[u8]) -> i32 {
     let mut room = note_room();
-    let pen = put_who(&mut room, note(who));
+    let pen = put_who(&mut room, note(rt, who));
     let pen = fault_words(&mut room, pen, fault);
     let pen = put_name(&mut room, pen, word);
     let pen = put(&mut room, pen, tip);
@@ -251,59 +264,87 @@ pub fn tell_word(who: u8, fault: u8, word: &[u8], tip: &[u8]) -> i32 {
 }
 
 // The same of the argument at a place. The tip says where to read more.
-pub fn tell(who: u8, fault: u8, i: usize, tip: &[u8]) -> i32 {
+pub fn tell(rt: &HostRuntime, who: u8, fault: u8, i: usize, tip: &[u8]) -> i32 {
     let mut word = io::buffer();
-    let n = os::arg(i, &mut word);
-    if os::errno() != 0 {
-        return tell_word(who, fault, &word, tip);
+    match rt.arg(i, &mut word) {
+        Ok(n) => tell_word(rt, who, fault, &word[..n], tip),
+        Err(_) => tell_word(rt, who, fault, &word, tip),
     }
-    tell_word(who, fault, &word[..n], tip)
 }
 
 // Tells a fault of use in words.
-pub fn tell_words(who: u8, words: &[u8], tip: &[u8]) -> i32 {
+pub fn tell_words(rt: &HostRuntime, who: u8, words: &[u8], tip: &[u8]) -> i32 {
     let mut room = note_room();
-    let pen = put_who(&mut room, note(who));
+    let pen = put_who(&mut room, note(rt, who));
     let pen = put(&mut room, pen, words);
     let pen = put(&mut room, pen, tip);
     flush(&room, pen);
     FAULT
 }
 
-// A value: the part of the buffer where it stands, and whether there is one that fits.
+// A value: the part of the buffer where it stands, whether there is one that fits, and the system's number of what is wrong where there is none.
 #[derive(Clone, Copy)]
 pub struct Found {
     pub start: usize,
     pub end: usize,
     pub is_whole: bool,
+    pub error: i32,
 }
+
+// The system's numbers of a name that is too long, and of an argument that is not there.
+const ENAMETOOLONG: i32 = 36;
+
+const EINVAL: i32 = 22;
 
 fn taken(start: usize, end: usize) -> Found {
     Found {
         start: start,
         end: end,
-        is_whole: os::errno() == 0,
+        is_whole: true,
+        error: 0,
     }
 }
 
-// The value of the option at a place: behind its `=`, or the next argument.
-pub fn value(i: usize, word: &mut [u8]) -> Found {
-    let n = os::arg(i, word);
+fn not_taken(why: FillError) -> Found {
+    Found {
+        start: 0,
+        end: 0,
+        is_whole: false,
+        error: match why {
+            FillError::TooLong => ENAMETOOLONG,
+            FillError::NotPresent => EINVAL,
+        },
+    }
+}
+
+// What is wrong where there is no value that fits.
+pub fn why_not(v: Found) -> Error {
+    Error::from_raw_os_error(v.error)
+}
+
+// The value of the option at a place, so many bytes of which are in the buffer: behind its `=`, or the next argument.
+fn value_of(rt: &HostRuntime, i: usize, word: &mut [u8], n: usize) -> Found {
     if byte(word, 7) == b'=' && 8 <= n {
         return taken(8, n);
-    }
-    if os::errno() != 0 {
-        return taken(0, 0);
     }
     if usize::MAX == i {
         return taken(0, 0);
     }
-    let m = os::arg(i + 1, word);
-    taken(0, m)
+    self::word(rt, i + 1, word)
+}
+
+// The value of the option at a place: behind its `=`, or the next argument.
+pub fn value(rt: &HostRuntime, i: usize, word: &mut [u8]) -> Found {
+    match rt.arg(i, word) {
+        Ok(n) => value_of(rt, i, word, n),
+        Err(why) => not_taken(why),
+    }
 }
 
 // The argument at a place.
-pub fn word(i: usize, word: &mut [u8]) -> Found {
-    let n = os::arg(i, word);
-    taken(0, n)
+pub fn word(rt: &HostRuntime, i: usize, word: &mut [u8]) -> Found {
+    match rt.arg(i, word) {
+        Ok(n) => taken(0, n),
+        Err(why) => not_taken(why),
+    }
 }

@@ -87,6 +87,15 @@ pub fn byte(s: &[u8], at: usize) -> u8 {
     0
 }
 
+// Copies bytes to the front of a buffer, as far as both go, and answers how many.
+pub fn copy(s: &[u8], into: &mut [u8]) -> usize
+    ensures { result ≤ length into.new }
+{
+    let n = s.len().min(into.len());
+    into[..n].copy_from_slice(&s[..n]);
+    n
+}
+
 // Lays bytes at the front of a buffer and answers how many; none where they do not fit.
 pub fn lay(s: &[u8], into: &mut [u8]) -> usize
     ensures { result ≤ length into.new }
@@ -94,7 +103,7 @@ pub fn lay(s: &[u8], into: &mut [u8]) -> usize
     if into.len() < s.len() {
         return 0;
     }
-    bytes::copy(s, into)
+    copy(s, into)
 }
 
 // Whether a slice begins with some bytes.

@@ -35,7 +35,7 @@ fn coded(plate: &[u8], name: &[u8], all: bool, out: &mut [u8]) -> DmCoded {
 fn refused(out: &[u8], pen: Pen, name: &[u8], r: DmCoded) -> Pen {
     let told = flush(out, pen);
     let mut room = note_room();
-    let words = put_who(&mut room, note(pen.who));
+    let words = put_who(&mut room, note(&pen.rt, pen.who));
     let words = put_name(&mut room, words, name);
     let words = put(&mut room, words, b": ");
     let words = put_refusal(&mut room, words, r.number);

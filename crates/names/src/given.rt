@@ -1,7 +1,7 @@
 // The plate by which names are coded: that of a file, or the standard rules'.
 use files::read::read_path;
 use files::tell::tell_path;
-use front::options::value;
+use front::options::{value, why_not};
 use front::out::{ANSWERED, FAULT, REFUSED, flush, note, put, put_who};
 use front::rooms::{codes_room, lay, note_room, part};
 use front::show::put_text;
@@ -32,9 +32,9 @@ fn is_plate(plate: &[u8]) -> bool {
     r.number == 0
 }
 
-fn refused(who: u8, path: &[u8]) -> Plate {
+fn refused(rt: &HostRuntime, who: u8, path: &[u8]) -> Plate {
     let mut room = note_room();
-    let pen = put_who(&mut room, note(who));
+    let pen = put_who(&mut room, note(rt, who));
     let pen = put_text(&mut room, pen, path);
     let pen = put(&mut room, pen, b": ");
     let pen = put_refusal(&mut room, pen, 10);
@@ -44,9 +44,9 @@ fn refused(who: u8, path: &[u8]) -> Plate {
     none(REFUSED)
 }
 
-fn too_long(who: u8, path: &[u8]) -> Plate {
+fn too_long(rt: &HostRuntime, who: u8, path: &[u8]) -> Plate {
     let mut room = note_room();
-    let pen = put_who(&mut room, note(who));
+    let pen = put_who(&mut room, note(rt, who));
     let pen = put_text(&mut room, pen, path);
     let pen = put(&mut room, pen, b": the plate has over 65,536 bytes; ");
     let pen = put(&mut room, pen, b"such a plate is for the library alone\n");
@@ -54,17 +54,17 @@ fn too_long(who: u8, path: &[u8]) -> Plate {
     none(REFUSED)
 }
 
-fn from_path(who: u8, path: &[u8], into: &mut [u8]) -> Plate {
-    let got = read_path(who, path, into);
+fn from_path(rt: &HostRuntime, who: u8, path: &[u8], into: &mut [u8]) -> Plate {
+    let got = read_path(rt, who, path, into);
     if !got.is_read {
         return none(FAULT);
     }
     let n = got.count;
     if PLATE_MOST < n {
-        return too_long(who, path);
+        return too_long(rt, who, path);
     }
     if !is_plate(part(into, 0, n)) {
-        return refused(who, path);
+        return refused(rt, who, path);
     }
     Plate {
         count: n,
@@ -72,21 +72,21 @@ fn from_path(who: u8, path: &[u8], into: &mut [u8]) -> Plate {
     }
 }
 
-fn from_option(who: u8, i: usize, into: &mut [u8]) -> Plate {
+fn from_option(rt: &HostRuntime, who: u8, i: usize, into: &mut [u8]) -> Plate {
     let mut word = io::buffer();
-    let v = value(i, &mut word);
+    let v = value(rt, i, &mut word);
     let start = v.start;
     let end = v.end;
     if !v.is_whole {
-        return none(tell_path(who, b"--plate"));
+        return none(tell_path(rt, who, b"--plate", why_not(v)));
     }
-    from_path(who, part(&word, start, end), into)
+    from_path(rt, who, part(&word, start, end), into)
 }
 
 // The plate that the option at a place names, or the standard rules' where that is 0.
-pub fn load(who: u8, i: usize, into: &mut [u8]) -> Plate {
+pub fn load(rt: &HostRuntime, who: u8, i: usize, into: &mut [u8]) -> Plate {
     if i != 0 {
-        return from_option(who, i, into);
+        return from_option(rt, who, i, into);
     }
     let standard = standard::standard_plate();
     Plate {

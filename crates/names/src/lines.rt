@@ -3,6 +3,7 @@ ghost use Rattle.std.specs.Prelude.{◌≡◌, length};
 
 use super::Way;
 use super::answer::answer;
+use files::read::{Source, read_once};
 use files::tell::tell_path;
 use front::out::{FAULT, Pen, flush, put, with_status};
 use front::rooms::{begins, byte, part};
@@ -149,7 +150,7 @@ fn read_some(
     plate: &[u8],
     line: &mut [u8],
     chunk: &mut [u8],
-    from: Input,
+    from: Input<'_>,
     path: &[u8],
     way: Way,
 ) -> Turn {
@@ -159,54 +160,52 @@ fn read_some(
     if pen.broken {
         return stopped(run, pen);
     }
-    let got = libc::read(from.fd, chunk);
-    if got < 0 {
-        tell_path(pen.who, path);
-        return stopped(run, with_status(pen, FAULT));
-    }
-    if got == 0 {
-        return stopped(run, pen);
-    }
-    let m = io::count(got, chunk);
-    let run = Run {
-        kept: run.kept,
-        is_first: run.is_first,
-        pen: pen,
-    };
-    let run = take_bytes(out, run, plate, line, part(chunk, 0, m), way);
-    Turn {
-        run: run,
-        more: true,
+    match read_once(from.source, chunk) {
+        Err(error) => {
+            tell_path(&pen.rt, pen.who, path, error);
+            stopped(run, with_status(pen, FAULT))
+        }
+        Ok(0) => stopped(run, pen),
+        Ok(m) => {
+            let run = Run {
+                kept: run.kept,
+                is_first: run.is_first,
+                pen: pen,
+            };
+            let run = take_bytes(out, run, plate, line, part(chunk, 0, m), way);
+            Turn {
+                run: run,
+                more: true,
+            }
+        }
     }
 }
 
 // Where names are read from, and whether a prompt is shown.
 #[derive(Clone, Copy)]
-pub struct Input {
-    pub fd: i32,
+pub struct Input<'a> {
+    pub source: &'a Source,
     pub prompt: bool,
 }
 
-// Reads to the end. Nothing says that the input ends, so the turns are counted down from a number that no run uses up.
+// Reads to the end. Nothing says that the input ends, so the turns are counted up to a number that no run reaches.
 fn read_lines(
     out: &mut [u8],
     run: Run,
     plate: &[u8],
     line: &mut [u8],
     chunk: &mut [u8],
-    from: Input,
+    from: Input<'_>,
     path: &[u8],
     way: Way,
 ) -> Run {
     let mut r = run;
-    let mut turns = u64::MAX;
-    while turns > 0 {
+    for _ in 0..u64::MAX {
         let turn = read_some(out, r, plate, line, chunk, from, path, way);
         r = turn.run;
         if !turn.more {
             return r;
         }
-        turns -= 1;
     }
     r
 }
@@ -227,7 +226,7 @@ pub fn answer_all(
     pen: Pen,
     plate: &[u8],
     chunk: &mut [u8],
-    from: Input,
+    from: Input<'_>,
     path: &[u8],
     way: Way,
 ) -> Pen {
