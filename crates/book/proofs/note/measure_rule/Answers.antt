@@ -85,7 +85,7 @@ overflow_add-result-4 c = let few = small c.before.before in omega (arith, few.0
 pub returns : goal.returns
 returns c =
     let few = small c.before.before in (
-      rule-fine (rule c.before.before.before.before.before.before.before.before) (rules-1 c.before.before.before.before.before.before) c.if-pattern-eq0.false c.if-pattern-gt-LONGEST_PATTERN.true (s c.before.before.before.before.before.before).0 (v c.before.before.before.before).0 (o c.before.before).0 c.if-rules-ge-MOST_RULES.false,
+      rule-fine (rule c.before.before.before.before.before.before.before.before) (rules-1 c.before.before.before.before.before.before) c.if-pattern-eq0.false c.if-pattern-gt-LONGEST_PATTERN.false (s c.before.before.before.before.before.before).0 (v c.before.before.before.before).0 (o c.before.before).0 c.if-rules-ge-MOST_RULES.false,
       rule_length (rule c.before.before.before.before.before.before.before.before) _ _ _ (s c.before.before.before.before.before.before).1 (v c.before.before.before.before).1
           (o c.before.before).1,
       omega (arith, few.0, few.1, few.2, few.3),

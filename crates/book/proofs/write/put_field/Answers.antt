@@ -1,6 +1,6 @@
 -- `write::put_field` meets its contract: the count, and the alternatives behind it. A field without fault has alternatives. Assumes nothing.
 use Prim.Native.Nat.{ℕ}
-use mathlib.Core.Path.{◌≡◌, sym, ap}
+use mathlib.Core.Path.{◌≡◌, refl, sym, ap}
 use mathlib.Core.Logic.{◌⊎◌, ⊎_elim}
 use mathlib.Core.List.{List}
 use native.Mathlib.Omega.{arith}
@@ -26,8 +26,8 @@ abbrev After-known_told : Type 0
 After-known_told = places.Past-After-known_told tie.the-claims reads.Pre reads.Post
 
 -- A field without fault has alternatives, so the other arm is never taken.
-many : (f : List (List ℕ)) (r : Alternatives) → Says f r → field_fault f ≡ 0 → (tag_of (declared enum) r ≡ 1) ⊎ (tag_of (declared enum) r ≡ 2) → ⊥
-many f (Many n) s z k = ⊎_elim (λ e. omega arith) (λ e. omega arith) k
+many : (f : List (List ℕ)) (r : Alternatives) → Says f r → field_fault f ≡ 0 → ((n : ℕ) → r ≡ Many n → ⊥) → ⊥
+many f (Many n) s z k = k n refl
 many f TooMany s z k = omega (arith, s, z)
 many f NotDigits s z k = omega (arith, s, z)
 
@@ -40,7 +40,7 @@ counted c = rw c.in-Many.is at c.parse_branch.ensures.1
 pub returns-in_default : goal.returns-in_default
 returns-in_default c =
     let F = split_at c.args.sep c.args.field.now in
-    let h = c.in_default.not-Many in ?
+    absurd (many F c.parse_branch.result c.parse_branch.ensures.1 c.requires.0 c.in_default.not-Many)
 
 pub put-counted-requires : goal.put-counted-requires
 put-counted-requires c =
