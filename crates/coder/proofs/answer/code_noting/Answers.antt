@@ -15,12 +15,12 @@ Else1 = places.Else1 tie.the-claims reads.Pre reads.Post
 
 -- The bytes are a plate.
 is_plate : (c : Else1) → accepted c.args.plate.now ≡ true
-is_plate c = sym c.accept_noting.ensures.0 ∙ not-false c.accept_noting.result c.if-not-accept_noting.false
+is_plate c = sym c.accept_noting.ensures.0 ∙ c.if-not-accept_noting.false
 
 pub returns-then-not-accept_noting : goal.returns-then-not-accept_noting
 returns-then-not-accept_noting c =
     let a = c.args in
-    sym (no_plate a.most a.plate.now a.name.now a.out.now (sym c.accept_noting.ensures.0 ∙ not-true c.accept_noting.result c.if-not-accept_noting.true))
+    sym (no_plate a.most a.plate.now a.name.now a.out.now (sym c.accept_noting.ensures.0 ∙ c.if-not-accept_noting.true))
 
 pub code_accepted-requires : goal.code_accepted-requires
 code_accepted-requires c =

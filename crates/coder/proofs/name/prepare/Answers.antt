@@ -213,5 +213,5 @@ pub returns-in-End : goal.returns-in-End
 returns-in-End c =
     let a = c.args in
     let l = c.loop-chars in
-    let n = c.if-name-gt-MOST_NAME.true in
+    let n = c.if-name-gt-MOST_NAME.false in
     record { is = end (plate_in a.plate.now) a.name.now l.chars l.count l.at l.invariant.3 (behind c.before); few = omega arith }

@@ -22,14 +22,11 @@ abbrev After-field_at : Type 0
 After-field_at = places.After-field_at tie.the-claims reads.Pre reads.Post goal.the-invariant-loop-u goal.the-decreases-loop-u
 
 held : (p : After-field_at)
-    → let next = p.before.before.before in
-    let known = let begun = next.before.before.before in begun.before in
-    let a = known.before.before.before.before.args in
-    let u = next.next-use.result in
+    → let a = p.args in
+    let u = p.next_use-u.result in
     FieldOk p.field_at-field.result × (alternatives_of p.field_at-field.result ≡ take a.most (field_of (rule_at a.plate.now u.place) u.which))
 held p =
-    let known = p.before.before.before.before.before.before.before in
-    let a = known.before.before.before.before.args in
+    let a = p.args in
     let u = p.next_use-u in
     let here = u.ensures.here p.if-not-u.false in
     taken_field (rule_at a.plate.now u.result.place) here.good u.result.which a.most p.field_at-field.result p.field_at-field.ensures
@@ -64,8 +61,7 @@ stepped-requires-then-not-u c = tt
 
 pub returns-then-not-u : goal.returns-then-not-u
 returns-then-not-u c =
-    let known = c.before.before.before.before.before.before.before.before in
-    let a = known.before.before.before.before.args in
+    let a = c.args in
     let l = c.loop-u in
     let u = c.next_use-u in
     rw c.stepped-then-not-u.ensures (
@@ -107,16 +103,15 @@ bounds-bs-0-then-one_meets_one c =
 pub loop-u-smaller-then-one_meets_one : goal.loop-u-smaller-then-one_meets_one
 loop-u-smaller-then-one_meets_one c =
     let u = c.next_use-u in
-    let found = not-false u.result.found c.if-not-u.false in
+    let found = c.if-not-u.false in
     omega (arith, u.ensures.within found, u.ensures.behind found)
 
 pub loop-u-preserved-then-one_meets_one : goal.loop-u-preserved-then-one_meets_one
 loop-u-preserved-then-one_meets_one c =
-    let known = c.before.before.before.before.before.before.before.before.before.before.before.before.before in
-    let a = known.before.before.before.before.args in
+    let a = c.args in
     let l = c.loop-u in
     let u = c.next_use-u in
-    let found = not-false u.result.found c.if-not-u.false in
+    let found = c.if-not-u.false in
     let ones = c.one_meets_one.ensures c.if-one_meets_one.true in
     let items = l.bs.items in
     let n = l.bs.count in
@@ -134,16 +129,14 @@ loop-u-preserved-then-one_meets_one c =
 -- ---- any other step
 pub step-s-requires : goal.step-s-requires
 step-s-requires c =
-    let known = c.before.before.before.before.before.before.before.before.before.before in
-    (c.loop-u.invariant.0, (held c.before.before.before).0, known.before.before.before.before.pre.2)
+    (c.loop-u.invariant.0, (held c.before.before.before).0, c.requires.2)
 
 pub returns-then-s : goal.returns-then-s
 returns-then-s c =
-    let known = c.before.before.before.before.before.before.before.before.before.before.before.before in
-    let a = known.before.before.before.before.args in
+    let a = c.args in
     let l = c.loop-u in
     let u = c.next_use-u in
-    let found = not-false u.result.found c.if-not-u.false in (
+    let found = c.if-not-u.false in (
       c.step-s.ensures.1,
       rw c.if-s.true (used_over a.plate.now a.name.now a.most a.room l.started l.before l.at (branches_of l.bs) l.invariant.1
           u.result u.ensures found c.field_at-field.result (held c.before.before.before.before.before).1 c.step-s.result c.step-s.ensures c.if-s.true),
@@ -152,16 +145,15 @@ returns-then-s c =
 pub loop-u-smaller : goal.loop-u-smaller
 loop-u-smaller c =
     let u = c.next_use-u in
-    let found = not-false u.result.found c.if-not-u.false in
+    let found = c.if-not-u.false in
     omega (arith, u.ensures.within found, u.ensures.behind found)
 
 pub loop-u-preserved : goal.loop-u-preserved
 loop-u-preserved c =
-    let known = c.before.before.before.before.before.before.before.before.before.before.before.before.before in
-    let a = known.before.before.before.before.args in
+    let a = c.args in
     let l = c.loop-u in
     let u = c.next_use-u in
-    let found = not-false u.result.found c.if-not-u.false in (
+    let found = c.if-not-u.false in (
       c.step-s.ensures.1,
       used-on a.plate.now a.name.now a.most a.room l.started l.before l.at (branches_of l.bs) l.invariant.1
           u.result u.ensures found c.field_at-field.result (held c.before.before.before.before.before.before).1 c.step-s.result c.step-s.ensures c.if-s.false,

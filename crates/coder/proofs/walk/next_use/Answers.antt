@@ -61,9 +61,8 @@ search-requires c =
 
 pub loop-at-preserved-then-known : goal.loop-at-preserved-then-known
 loop-at-preserved-then-known c =
-    let start = c.before.before.before.before.before.before.before.before.before.before.before.before in
     let l = c.loop-at in
-    let a = start.pre.0 in
+    let a = c.requires.0 in
     let below = c.loop-at-test.true in
     let i = l.invariant.0 in (
       omega arith,
@@ -73,9 +72,8 @@ loop-at-preserved-then-known c =
 
 pub loop-at-preserved : goal.loop-at-preserved
 loop-at-preserved c =
-    let start = c.before.before.before.before.before.before.before.before.before.before.before.before in
     let l = c.loop-at in
-    let a = start.pre.0 in
+    let a = c.requires.0 in
     let below = c.loop-at-test.true in
     let i = l.invariant.0 in (
       omega arith,
@@ -99,9 +97,8 @@ is_forced-requires c = tt
 
 pub returns-in-At : goal.returns-in-At
 returns-in-At c =
-    let start = c.before.before.before.before.before.before.before.before.before.before.before.before.before.before in
     let l = c.loop-at in
-    let a = start.pre.0 in
+    let a = c.requires.0 in
     let i = l.invariant.0 in
     let found = told2 c.before.before.before.before in
     let n = c.in-At.n in
@@ -123,12 +120,11 @@ no_use-requires c = tt
 
 pub returns : goal.returns
 returns c =
-    let start = c.before.before.before.before.before.before.before.before in
     let l = c.loop-at in
     rw c.no_use.ensures (record {
       here = λ e. absurd (false≢true e);
       field = zero-le;
-      is = λ most. sym (l.invariant.1 most) ∙ from_end (plate_in start.args.plate.now).rules start.args.name.now most l.started l.before l.at c.loop-at-test.false;
+      is = λ most. sym (l.invariant.1 most) ∙ from_end (plate_in c.args.plate.now).rules c.args.name.now most l.started l.before l.at c.loop-at-test.false;
       within = λ e. absurd (false≢true e);
       behind = λ e. absurd (false≢true e);
     })

@@ -106,7 +106,7 @@ pattern_begins-requires c = (here c.before.before, c.ahead_of-ahead.ensures.few)
 
 pub rules-smaller-in-Not : goal.rules-smaller-in-Not
 rules-smaller-in-Not c =
-    omega (arith, c.if-group-i.true)
+    omega (arith, c.if-group-i.false)
 
 -- The characters ahead are others.
 pub rules-preserved-in-Not : goal.rules-preserved-in-Not
@@ -132,7 +132,7 @@ pattern_char-p-requires c = (here c.before.before.before.before.before.before.be
 
 pub rules-smaller-then-rest-j : goal.rules-smaller-then-rest-j
 rules-smaller-then-rest-j c =
-    omega (arith, c.if-group-i.true)
+    omega (arith, c.if-group-i.false)
 
 pub rules-preserved-then-rest-j : goal.rules-preserved-then-rest-j
 rules-preserved-then-rest-j c =
@@ -140,7 +140,7 @@ rules-preserved-then-rest-j c =
 
 pub rules-smaller : goal.rules-smaller
 rules-smaller c =
-    omega (arith, c.if-group-i.true)
+    omega (arith, c.if-group-i.false)
 
 pub rules-preserved : goal.rules-preserved
 rules-preserved c =
@@ -197,7 +197,7 @@ returns-in-Is c =
     let some = one_letter s at (here c.before.before.before.before) in
     let counted = said.1 in
     let few = said.2 in record {
-      taken = left-hit s (places_of c.before.before.before.before.before.before.before.before) (rest_of c.before.before.before.before.before.before.before.before) found.first found.behind p.0 p.1.0 c.group_of-group.ensures p.2 turn.i c.if-group-i.true turn.invariant said.0;
+      taken = left-hit s (places_of c.before.before.before.before.before.before.before.before) (rest_of c.before.before.before.before.before.before.before.before) found.first found.behind p.0 p.1.0 c.group_of-group.ensures p.2 turn.i c.if-group-i.false turn.invariant said.0;
       here = here c.before.before.before.before;
       counted = counted;
       some = omega arith;
@@ -220,7 +220,7 @@ returns-then-n-k c =
     let z = ap length none_left in
     let some = one_letter s at (here c.before.before.before.before.before.before.before) in
     let whole = sym i.4 ∙ all (letters_from s at k) (rest_of c.before.before.before.before.before.before.before.before.before.before.before) c.bytes.j none_left in record {
-      taken = left-hit s (places_of c.before.before.before.before.before.before.before.before.before.before.before) (rest_of c.before.before.before.before.before.before.before.before.before.before.before) found.first found.behind p.0 p.1.0 c.group_of-group.ensures p.2 turn.i c.if-group-i.true turn.invariant whole;
+      taken = left-hit s (places_of c.before.before.before.before.before.before.before.before.before.before.before) (rest_of c.before.before.before.before.before.before.before.before.before.before.before) found.first found.behind p.0 p.1.0 c.group_of-group.ensures p.2 turn.i c.if-group-i.false turn.invariant whole;
       here = here c.before.before.before.before.before.before.before;
       counted = omega arith;
       some = omega arith;

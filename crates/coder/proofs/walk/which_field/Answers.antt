@@ -7,7 +7,7 @@ pub returns-then-not-started : goal.returns-then-not-started
 returns-then-not-started c = (rw c.if-not-started.true, omega arith)
 
 pub returns-then-vowel : goal.returns-then-vowel
-returns-then-vowel c = (rw (not-false c.args.started c.if-not-started.false, c.if-vowel.true), omega arith)
+returns-then-vowel c = (rw (c.if-not-started.false, c.if-vowel.true), omega arith)
 
 pub returns-else-vowel : goal.returns-else-vowel
-returns-else-vowel c = (rw (not-false c.args.started c.if-not-started.false, c.if-vowel.false), omega arith)
+returns-else-vowel c = (rw (c.if-not-started.false, c.if-vowel.false), omega arith)

@@ -13,10 +13,10 @@ use Rattle.coder.proofs.write.put.Reads as reads
 use Rattle.coder.proofs.write.put.Goals as goal
 
 abbrev Start : Type 0
-Start = places.Start tie.the-claims reads.Pre reads.Post goal.the-invariant-loop-i goal.the-decreases-loop-i
+Start = places.Start reads.Pre reads.Post goal.the-invariant-loop-i goal.the-decreases-loop-i
 
 -- A code has six digits.
-six : (c : Start) → length c.args.t2 ≡ 6
+six : (c : Start) → length c.args.digits ≡ 6
 six c = search rules
 
 pub loop-i-init : goal.loop-i-init
@@ -33,9 +33,9 @@ loop-i-preserved c =
     let p = c.requires in
     let t = c.loop-i-test.true in
     let s = six c.before.before in
-    let h : l.i < length a.t2 = omega arith in
+    let h : l.i < length a.digits = omega arith in
     let g : l.i < length a.out.now = omega arith in
-    (omega arith, length-set l.out l.i _ ∙ i.1, copied a.t2 a.out.now l.out l.i h g i.2)
+    (omega arith, length-set l.out l.i _ ∙ i.1, copied a.digits a.out.now l.out l.i h g i.2)
 
 pub shape_of-out : goal.shape_of-out
 shape_of-out c = c.loop-i.invariant.1
@@ -47,4 +47,4 @@ returns c =
     let i = l.invariant in
     let s = six c.before.before in
     let e : l.i ≡ 6 = omega arith in
-    i.2 ∙ rw (e, take_all 6 a.t2 (omega arith))
+    i.2 ∙ rw (e, take_all 6 a.digits (omega arith))

@@ -19,11 +19,11 @@ Joined1 = places.Joined1 tie.the-claims reads.Pre reads.Post goal.the-invariant-
 
 -- The bar stands before code k, if one must.
 barred-now : (c : Joined1) → (length c.if-k-gt0.out ≡ length c.args.out.now)
-    × (c.if-k-gt0.out ≡ barred (take c.loop-k.k (rows c.args.t2)) ++ drop (7 * c.loop-k.k)
+    × (c.if-k-gt0.out ≡ barred (take c.loop-k.k (rows c.args.bs)) ++ drop (7 * c.loop-k.k)
     c.args.out.now)
 barred-now c =
     let o = c.args.out.now in
-    let bs = c.args.t2 in
+    let bs = c.args.bs in
     let p = c.requires in
     let q = p.1 in
     let l = c.loop-k in
@@ -64,7 +64,7 @@ pub loop-k-preserved : goal.loop-k-preserved
 loop-k-preserved c =
     let k = c.loop-k.k in
     let o = c.args.out.now in
-    let bs = c.args.t2 in
+    let bs = c.args.bs in
     let p = c.requires in
     let q = p.1 in
     let t = c.loop-k-test.true in
@@ -75,7 +75,7 @@ loop-k-preserved c =
     let fits : 7 * (k + 1) - 1 ≤ length o = omega arith in
     let lent = c.if-k-gt0.out in
     let e =
-    put_on (rows bs) six k o lent c.put.new.0 some (barred-now c.before.before.before.before.before.before.before).1
+    put_on (rows bs) six k o lent c.put.new.out some (barred-now c.before.before.before.before.before.before.before).1
     (c.put.ensures ∙ ap (λ (d : List ℕ). d ++ drop 6 (take (length lent - 7 * k) (drop (7 * k) lent))) (sym (rows_at bs p.0 k t))) in
     (omega arith, as_long (rows bs) six (k + 1) o _ whole fits e, e)
 
@@ -84,7 +84,7 @@ shape_of-out c = c.loop-k.invariant.1
 
 pub returns : goal.returns
 returns c =
-    let bs = c.args.t2 in
+    let bs = c.args.bs in
     let o = c.args.out.now in
     let p = c.requires.0 in
     let l = c.loop-k in
