@@ -1,6 +1,6 @@
 -- Where the first fault of some bytes stands: the first sequence that is not UTF-8, and the first character that fails a test. One character at a time, for
 -- who reads them; and what stands at the place and before it, which no other place has. Assumes nothing.
-use mathlib.Core.Path.{◌≡◌, refl, sym, ap, ap₂, subst, ◌∙◌}
+use mathlib.Core.Path.{◌≡◌, refl, sym, ap, ap₂, ◌∙◌}
 use mathlib.Core.Bool.{Bool, true, false, cond, ◌&&◌, false≢true}
 use mathlib.Core.List.{List, [], ◌∷◌, ◌++◌, append_assoc}
 use Prim.Native.Nat.{ℕ, zero, suc, ◌+◌, ◌-◌, ◌≤◌}
@@ -17,7 +17,7 @@ use Rattle.laws.proofs.Lists.{cat_append}
 use Rattle.chars.specs.Utf8.{scalar, bytes_of, bytes_of_all, char_of, is_one, width_of, text_from, is_text, chars_of, sound_from, bad_place, leading, fail_place}
 use Rattle.chars.specs.declared.Char.{Char}
 use Rattle.chars.specs.declared.Char.TheVariants.{One, Bad, End}
-use Rattle.chars.proofs.Texts.{kind, text_front, chars_front}
+use Rattle.chars.proofs.Texts.{kind, chars_front}
 use Rattle.chars.proofs.Exact.{Decoded, bytes_count, encoded_one, encoded_text, encoded_chars, decoded_any, decoded_one, decoded_text, decoded_chars}
 use Rattle.chars.proofs.Places as places
 use Rattle.chars.proofs.Checks.{sound_front}

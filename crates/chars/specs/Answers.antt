@@ -9,7 +9,6 @@ use Rattle.chars.specs.declared.Char.TheVariants.{One, Bad, End}
 use Rattle.chars.specs.declared.Checked.{Checked}
 use Rattle.chars.specs.declared.Checked.TheVariants.{BadAt, Text}
 use Rattle.chars.specs.declared.Next.{Next}
-use Rattle.chars.specs.declared.Next.TheVariants as Next
 
 -- A character c of w bytes at a place of n bytes.
 pub record OneWithin (at n c w : ℕ) : Type 0 where

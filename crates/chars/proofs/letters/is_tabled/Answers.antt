@@ -1,7 +1,6 @@
 -- `letters::is_tabled` meets its contract: the two tests are the two parts of the definition, in their order. Assumes nothing.
 use mathlib.Core.Path.{sym, ap, ◌∙◌}
 use mathlib.Core.Bool.{Bool, ◌||◌}
-use borrow.Author.Rules.{rules}
 use borrow.Author.Tests.{lt-ltb, le-ltb}
 use Rattle.laws.proofs.Tests.{or_left}
 use Rattle.chars.specs.Letters.{latin_end, latin, cyrillic}

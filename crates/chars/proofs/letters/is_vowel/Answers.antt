@@ -2,7 +2,6 @@
 use mathlib.Core.Path.{sym, ap, ◌∙◌}
 use Rattle.chars.specs.Answers.{vowel_next}
 use Rattle.chars.proofs.Vowels.{five_vowel, none_vowel}
-use borrow.Author.Rules.{rules}
 use Rattle.chars.proofs.letters.is_vowel.Goals as goal
 
 pub returns-in-97 : goal.returns-in-97

@@ -1,10 +1,9 @@
 -- `lower::lower` meets its contract. Below U+0180 the entry is the lowercase (Lowering.latin-entry). Assumes nothing.
-use mathlib.Core.Path.{sym, ap, ◌∙◌}
+use mathlib.Core.Path.{ap, ◌∙◌}
 use mathlib.Core.List.{List}
 use Prim.Native.Nat.{ℕ}
 use lib.ListN.{get_or}
 use Rattle.chars.proofs.Lowering.{latin_entry}
-use borrow.Author.Rules.{rules}
 use Rattle.chars.proofs.lower.lower.Goals as goal
 
 pub lower_beyond-requires : goal.lower_beyond-requires

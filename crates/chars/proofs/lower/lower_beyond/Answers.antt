@@ -1,11 +1,9 @@
 -- `lower::lower_beyond` meets its contract: the entry of a character of the second table is its lowercase (Lowering.cyrillic-entry), and what has none is its own
 -- (Lowering.untabled). Assumes nothing.
-use Prim.Native.Nat.{ℕ, ◌-◌, ◌≤◌, ◌<◌}
+use Prim.Native.Nat.{ℕ, ◌-◌, ◌≤◌}
 use mathlib.Core.Path.{sym, ap, ◌∙◌}
 use mathlib.Core.List.{List}
 use native.Mathlib.Omega.{arith}
-use borrow.Author.Rules.{rules}
-use borrow.Author.Tests.{not-true, not-false}
 use lib.ListN.{get_or}
 use Rattle.laws.proofs.Tests.{told, between_true}
 use Rattle.chars.specs.Letters.{cyrillic_first, cyrillic_last}

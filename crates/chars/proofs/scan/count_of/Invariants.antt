@@ -2,10 +2,8 @@
 -- A turn is Counts.count-hit or Counts.count-step, the way out Counts.count-end. Assumes nothing.
 use mathlib.Core.Path.{◌≡◌}
 use Prim.Native.Nat.{◌+◌, ◌-◌, ◌≤◌}
-use native.Mathlib.Omega.{arith}
 use lib.ListN.{length, drop}
 use Rattle.laws.specs.Lists.{count_of}
-use Rattle.laws.proofs.Counts.{count_end, count_hit, count_step}
 use Rattle.chars.proofs.scan.count_of.Given as goal
 
 abbrev pub invariant-loop-i : goal.invariant-loop-i

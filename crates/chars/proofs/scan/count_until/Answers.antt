@@ -1,10 +1,6 @@
 -- `scan::count_until` meets its contract. The loop keeps: the bytes before the first b are those passed and those from here on.
 -- A turn is Counts.until-step, the ways out Counts.until-hit and Counts.until_end. Assumes nothing.
-use mathlib.Core.Path.{◌≡◌}
-use Prim.Native.Nat.{◌+◌, ◌-◌, ◌≤◌}
 use native.Mathlib.Omega.{arith}
-use lib.ListN.{length, drop}
-use Rattle.laws.specs.Lists.{until}
 use Rattle.laws.proofs.Counts.{until_end, until_hit, until_step}
 use Rattle.chars.proofs.scan.count_until.Goals as goal
 

@@ -2,10 +2,8 @@
 -- A turn is Counts.until-step, the ways out Counts.until-hit and Counts.until_end. Assumes nothing.
 use mathlib.Core.Path.{◌≡◌}
 use Prim.Native.Nat.{◌+◌, ◌-◌, ◌≤◌}
-use native.Mathlib.Omega.{arith}
 use lib.ListN.{length, drop}
 use Rattle.laws.specs.Lists.{until}
-use Rattle.laws.proofs.Counts.{until_end, until_hit, until_step}
 use Rattle.chars.proofs.scan.count_until.Given as goal
 
 abbrev pub invariant-loop-i : goal.invariant-loop-i

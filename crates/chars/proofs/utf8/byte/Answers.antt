@@ -2,7 +2,6 @@
 use mathlib.Core.Path.{sym}
 use native.Mathlib.Omega.{arith}
 use lib.ListN.{get_or-eq_default}
-use borrow.Author.Rules.{rules}
 use Rattle.chars.proofs.utf8.byte.Goals as goal
 
 pub overflow_cast-result : goal.overflow_cast-result

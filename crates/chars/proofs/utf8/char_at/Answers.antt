@@ -7,7 +7,6 @@ use Rattle.laws.proofs.Lists.{rest}
 use Rattle.chars.specs.Utf8.{char_of}
 use Rattle.chars.specs.Answers.{Reaches}
 use Rattle.chars.proofs.Places.{behind, reaches}
-use borrow.Author.Rules.{rules}
 use Rattle.chars.proofs.utf8.char_at.Goals as goal
 
 pub returns-then-s-at : goal.returns-then-s-at

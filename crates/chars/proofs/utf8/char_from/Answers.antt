@@ -1,7 +1,6 @@
 -- `utf8::char_from` meets its contract. The tests are those of the definition, in its order, and each kind is answered by its own function. Assumes nothing.
 use borrow.Author.Tests.{le-leb, lt-leb}
 use Rattle.laws.proofs.Tests.{told}
-use borrow.Author.Rules.{rules}
 use Rattle.chars.proofs.utf8.char_from.Goals as goal
 
 pub returns-then-a-le127 : goal.returns-then-a-le127

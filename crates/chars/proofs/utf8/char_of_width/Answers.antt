@@ -1,7 +1,6 @@
 -- `utf8::char_of_width` meets its contract. Each way out has passed or failed the two tests of the definition, in their order. Assumes nothing.
 use borrow.Author.Tests.{le-leb, lt-leb}
 use Rattle.laws.proofs.Tests.{told}
-use borrow.Author.Rules.{rules}
 use Rattle.chars.proofs.utf8.char_of_width.Goals as goal
 
 pub returns-then-is_scalar : goal.returns-then-is_scalar

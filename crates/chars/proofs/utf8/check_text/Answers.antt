@@ -1,12 +1,10 @@
 -- `utf8::check_text` meets its contract. The loop keeps: the check from here on is the check from the start. A turn is
 -- Checks.turn-plain, turn-zero or turn-other, the ways out are Checks.stop and Checks.done; each turn passes a byte at least, so the loop ends. Assumes nothing.
-use mathlib.Core.Path.{◌≡◌, ◌∙◌}
-use Prim.Native.Nat.{◌-◌, ◌<◌}
+use mathlib.Core.Path.{◌∙◌}
+use Prim.Native.Nat.{◌<◌}
 use native.Mathlib.Omega.{arith}
-use borrow.Author.Rules.{rules}
-use lib.ListN.{length, drop}
-use Rattle.chars.specs.Answers.{checked}
-use Rattle.chars.proofs.Checks.{checked_from, start, plain_inside, turn_plain, turn_zero, turn_other, stop, done}
+use lib.ListN.{length}
+use Rattle.chars.proofs.Checks.{start, plain_inside, turn_plain, turn_zero, turn_other, stop, done}
 use Rattle.chars.proofs.utf8.check_text.Tie as tie
 use Rattle.chars.proofs.utf8.check_text.Lts as places
 use Rattle.chars.proofs.utf8.check_text.Reads as reads

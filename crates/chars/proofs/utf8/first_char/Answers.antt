@@ -3,7 +3,6 @@ use mathlib.Core.Path.{◌∙◌}
 use mathlib.Core.List.{[], ◌∷◌}
 use Rattle.chars.specs.Utf8.{char_of}
 use Rattle.chars.proofs.Places.{numbers, empty}
-use borrow.Author.Rules.{rules}
 use Rattle.chars.proofs.utf8.first_char.Goals as goal
 
 pub returns-then-s-eq0 : goal.returns-then-s-eq0

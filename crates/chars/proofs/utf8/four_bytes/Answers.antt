@@ -1,6 +1,5 @@
 -- `utf8::four_bytes` meets its contract. Each way out has passed or failed the tests of the definition, in its order; `char_of_width` has the last two. Assumes nothing.
 use Rattle.laws.proofs.Tests.{told}
-use borrow.Author.Rules.{rules}
 use Rattle.chars.proofs.utf8.four_bytes.Goals as goal
 
 pub returns-then-is_tail-3 : goal.returns-then-is_tail-3

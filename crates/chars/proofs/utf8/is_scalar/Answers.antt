@@ -1,6 +1,5 @@
 -- `utf8::is_scalar` meets its contract. Up to U+D7FF the first part of the definition holds; above, it fails, and `is_between` answers the second. Assumes nothing.
 use borrow.Author.Tests.{le-leb, lt-leb}
-use borrow.Author.Rules.{rules}
 use Rattle.chars.proofs.utf8.is_scalar.Goals as goal
 
 pub returns-then-c-le55295 : goal.returns-then-c-le55295

@@ -1,5 +1,4 @@
 -- `utf8::is_tail` meets its contract. The bounds asked for are those of a tail byte. Assumes nothing.
-use borrow.Author.Rules.{rules}
 use Rattle.chars.proofs.utf8.is_tail.Goals as goal
 
 pub returns : goal.returns

@@ -1,7 +1,6 @@
 -- `utf8::two_bytes` meets its contract. Each way out has passed or failed the tests of the definition, in its order. Assumes nothing.
 use borrow.Author.Tests.{le-leb, lt-leb}
 use Rattle.laws.proofs.Tests.{told}
-use borrow.Author.Rules.{rules}
 use Rattle.chars.proofs.utf8.two_bytes.Goals as goal
 
 pub returns-then-c-ge128 : goal.returns-then-c-ge128

@@ -1,11 +1,11 @@
 -- `comment::closing_of` meets its contract. The loop keeps: the end of the comment is the one from here on, later by the bytes passed.
 -- A turn is Blocks.closing-step, the ways out Blocks.closing-hit and Blocks.closing_end. Assumes nothing.
-use mathlib.Core.Path.{◌≡◌, sym, ◌∙◌}
-use Prim.Native.Nat.{◌-◌, ◌<◌, ◌≤◌}
+use mathlib.Core.Path.{sym, ◌∙◌}
+use Prim.Native.Nat.{◌<◌, ◌≤◌}
 use native.Mathlib.Omega.{arith}
-use lib.ListN.{length, drop}
+use lib.ListN.{length}
 use Rattle.laws.proofs.Tests.{told}
-use Rattle.rule_text.specs.Forms.{star, slash, later, closing}
+use Rattle.rule_text.specs.Forms.{star, slash}
 use Rattle.rule_text.proofs.Counts.{pair_within}
 use Rattle.rule_text.proofs.Blocks.{closing_start, closing_end, closing-step, closing-hit}
 use Rattle.rule_text.proofs.comment.closing_of.Goals as goal

@@ -1,4 +1,4 @@
--- `folding::letter_at` meets its contract. What `char_at` promises, as a letter (Folds.letter-is, Folds.letter-reads). Assumes nothing.
+-- `folding::letter_at` meets its contract. What `char_at` promises, as a letter (Folds.letter_is, Folds.letter_reads). Assumes nothing.
 use Prim.Native.Nat.{ℕ}
 use mathlib.Core.List.{List}
 use native.Mathlib.Omega.{arith}
@@ -7,33 +7,26 @@ use Rattle.laws.proofs.Parts.{known}
 use Rattle.chars.specs.Answers.{Reaches}
 use Rattle.chars.specs.declared.Char.TheVariants.{One, Bad, End}
 use Rattle.rule_text.proofs.Folds.{letter_is, letter_reads}
-use borrow.Author.Rules.{rules}
-use Rattle.rule_text.proofs.folding.letter_at.Tie as tie
-use Rattle.rule_text.proofs.folding.letter_at.Lts as places
-use Rattle.rule_text.proofs.folding.letter_at.Reads as reads
 use Rattle.rule_text.proofs.folding.letter_at.Goals as goal
 
-abbrev After-known_told : Type 0
-After-known_told = places.After-known_told tie.the-claims reads.Pre reads.Post
-
-abbrev text : (c : After-known_told) → List ℕ
+abbrev text : (c : goal.In-One) → List ℕ
 text c =
     c.args.rest.now
 
-abbrev place : (c : After-known_told) → ℕ
+abbrev place : (c : goal.In-One) → ℕ
 place c =
     c.args.at
 
-found : (c : After-known_told) → Reaches (place c) (length (text c)) (One c.in-One.c c.in-One.w)
+found : (c : goal.In-One) → Reaches (place c) (length (text c)) (One c.in-One.c c.in-One.w)
 found c = (known (Reaches (place c) (length (text c))) c.char_at.ensures c.in-One.is).1
 
 pub overflow_add-result : goal.overflow_add-result
-overflow_add-result c = let w = (found c.before).within in omega arith
+overflow_add-result c = let w = (found c).within in omega arith
 
 pub returns-in-One : goal.returns-in-One
 returns-in-One c =
     let r = c.char_at in
-    (letter_is (text c.before) (place c.before) r.result (One c.in-One.c c.in-One.w) r.ensures.0 c.in-One.is, letter_reads (place c.before) (length (text c.before)) c.in-One.c c.in-One.w (found c.before))
+    (letter_is (text c) (place c) r.result (One c.in-One.c c.in-One.w) r.ensures.0 c.in-One.is, letter_reads (place c) (length (text c)) c.in-One.c c.in-One.w (found c))
 
 pub returns-in-Bad : goal.returns-in-Bad
 returns-in-Bad c =

@@ -1,10 +1,9 @@
--- `item::item` meets its contract. The first form that fits is a rule, or what `no_rule` says (Entries.from-rule). Assumes nothing.
+-- `item::item` meets its contract. The first form that fits is a rule, or what `no_rule` says (Entries.from_rule). Assumes nothing.
 use mathlib.Core.Path.{sym, ◌∙◌}
 use lib.ListN.{length}
 use Rattle.laws.proofs.Parts.{known}
 use Rattle.rule_text.specs.Answers.{HoldsFour}
 use Rattle.rule_text.proofs.Entries.{from_rule}
-use borrow.Author.Rules.{rules}
 use Rattle.rule_text.proofs.item.item.Goals as goal
 
 pub returns-in_default : goal.returns-in_default

@@ -1,12 +1,10 @@
 -- `item::line_of` meets its contract. Before a place past the end stands the whole text. Assumes nothing.
 use mathlib.Core.Path.{ap, sym, ◌∙◌}
-use mathlib.Core.List.{List}
 use Prim.Native.Nat.{ℕ, ◌+◌}
 use native.Mathlib.Omega.{arith}
 use lib.Seq.{take_all, length-take-le}
 use Rattle.laws.specs.Lists.{count_of}
 use Rattle.rule_text.specs.Forms.{newline}
-use borrow.Author.Rules.{rules}
 use Rattle.rule_text.proofs.item.line_of.Goals as goal
 
 pub returns-then-text-at : goal.returns-then-text-at

@@ -1,10 +1,9 @@
--- `item::no_folding` meets its contract. The first form that fits is a line end, or what `no_line_end` says (Entries.from-line-end). Assumes nothing.
+-- `item::no_folding` meets its contract. The first form that fits is a line end, or what `no_line_end` says (Entries.from_line_end). Assumes nothing.
 use mathlib.Core.Path.{sym, ◌∙◌}
 use lib.ListN.{length}
 use Rattle.laws.proofs.Parts.{known}
 use Rattle.rule_text.specs.Answers.{EndsLine}
 use Rattle.rule_text.proofs.Entries.{from_line_end}
-use borrow.Author.Rules.{rules}
 use Rattle.rule_text.proofs.item.no_folding.Goals as goal
 
 pub returns-in_default : goal.returns-in_default

@@ -1,10 +1,9 @@
--- `item::no_line_end` meets its contract. A block comment is the last form, and without it the item is unknown (Entries.from-comment). Assumes nothing.
+-- `item::no_line_end` meets its contract. A block comment is the last form, and without it the item is unknown (Entries.from_comment). Assumes nothing.
 use mathlib.Core.Path.{sym, ◌∙◌}
 use lib.ListN.{length}
 use Rattle.laws.proofs.Parts.{known}
 use Rattle.rule_text.specs.Answers.{Comments}
 use Rattle.rule_text.proofs.Entries.{from_comment}
-use borrow.Author.Rules.{rules}
 use Rattle.rule_text.proofs.item.no_line_end.Goals as goal
 
 pub returns-in_default : goal.returns-in_default

@@ -1,10 +1,9 @@
--- `item::no_rule` meets its contract. The first form that fits is a folding, or what `no_folding` says (Entries.from-folding). Assumes nothing.
+-- `item::no_rule` meets its contract. The first form that fits is a folding, or what `no_folding` says (Entries.from_folding). Assumes nothing.
 use mathlib.Core.Path.{sym, ◌∙◌}
 use lib.ListN.{length}
 use Rattle.laws.proofs.Parts.{known}
 use Rattle.rule_text.specs.Answers.{Pairs}
 use Rattle.rule_text.proofs.Entries.{from_folding}
-use borrow.Author.Rules.{rules}
 use Rattle.rule_text.proofs.item.no_rule.Goals as goal
 
 pub returns-in_default : goal.returns-in_default

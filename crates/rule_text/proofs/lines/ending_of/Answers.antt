@@ -5,7 +5,6 @@ use Rattle.laws.proofs.Tests.{told}
 use Rattle.rule_text.specs.Forms.{newline, return}
 use Rattle.rule_text.proofs.Counts.{pair_within}
 use Rattle.rule_text.proofs.Ends.{ending_text, ending_newline, ending-return, ending-none}
-use borrow.Author.Rules.{rules}
 use Rattle.rule_text.proofs.lines.ending_of.Goals as goal
 
 pub returns-then-rest-eq0 : goal.returns-then-rest-eq0

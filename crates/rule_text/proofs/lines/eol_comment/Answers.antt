@@ -3,7 +3,6 @@ use mathlib.Core.Path.{sym, ◌∙◌}
 use native.Mathlib.Omega.{arith}
 use Rattle.laws.proofs.Tests.{told}
 use Rattle.rule_text.proofs.Ends.{comment_there, comment_none}
-use borrow.Author.Rules.{rules}
 use Rattle.rule_text.proofs.lines.eol_comment.Goals as goal
 
 pub returns-then-pair_at : goal.returns-then-pair_at

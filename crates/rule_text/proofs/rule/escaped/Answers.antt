@@ -4,7 +4,6 @@ use native.Mathlib.Omega.{arith}
 use Rattle.laws.proofs.Parts.{within}
 use Rattle.rule_text.specs.Forms.{quote}
 use Rattle.rule_text.proofs.Quotes.{escaped_held, escaped_none}
-use borrow.Author.Rules.{rules}
 use Rattle.rule_text.proofs.rule.escaped.Goals as goal
 
 pub returns-then-byte-eq34 : goal.returns-then-byte-eq34

@@ -6,7 +6,6 @@ use Rattle.laws.proofs.Tests.{told}
 use Rattle.laws.proofs.Parts.{within}
 use Rattle.rule_text.specs.Forms.{quote}
 use Rattle.rule_text.proofs.Quotes.{part_none, part_escaped, part_plain}
-use borrow.Author.Rules.{rules}
 use Rattle.rule_text.proofs.rule.part.Tie as tie
 use Rattle.rule_text.proofs.rule.part.Lts as places
 use Rattle.rule_text.proofs.rule.part.Reads as reads

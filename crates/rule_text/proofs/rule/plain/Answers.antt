@@ -1,8 +1,7 @@
--- `rule::plain` meets its contract. The next quote is sought in the part behind the first (Quotes.plain-held, Quotes.plain-none). Assumes nothing.
+-- `rule::plain` meets its contract. The next quote is sought in the part behind the first (Quotes.plain_held, Quotes.plain_none). Assumes nothing.
 use mathlib.Core.Path.{sym}
 use native.Mathlib.Omega.{arith}
 use Rattle.rule_text.proofs.Quotes.{plain_held, plain_none}
-use borrow.Author.Rules.{rules}
 use Rattle.rule_text.proofs.rule.plain.Goals as goal
 
 pub returns-then-end-rest : goal.returns-then-end-rest

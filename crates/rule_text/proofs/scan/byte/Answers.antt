@@ -1,7 +1,6 @@
 -- `scan::byte` meets its contract. Past the end `get_or` answers what it is given, here 0. Assumes nothing.
 use mathlib.Core.Path.{sym}
 use lib.ListN.{get_or-eq_default}
-use borrow.Author.Rules.{rules}
 use Rattle.rule_text.proofs.scan.byte.Goals as goal
 
 pub returns-else-k-s : goal.returns-else-k-s

@@ -1,6 +1,5 @@
 -- `scan::pair_at` meets its contract. Past the end there is no pair, for its first byte is no zero; within, each test is one of the definition's. Assumes nothing.
 use Rattle.rule_text.proofs.Counts.{pair_past, pair_other, pair_first}
-use borrow.Author.Rules.{rules}
 use Rattle.rule_text.proofs.scan.pair_at.Goals as goal
 
 pub returns-then-s-k : goal.returns-then-s-k
