@@ -13,8 +13,8 @@ pub slice_bounds-code_chars-end : goal.slice_bounds-code_chars-end
 slice_bounds-code_chars-end c =
     let p = c.prepare-p in
     let n = p.ensures.few in
-    let m : length p.new.chars.1.1.0 ≡ 256 = search rules in
-    sym (length-take-le p.result.count p.new.1.1.1.0 (omega arith))
+    let m : length p.new.chars ≡ 256 = search rules in
+    sym (length-take-le p.result.count p.new.chars (omega arith))
 
 pub returns-in-TooLong : goal.returns-in-TooLong
 returns-in-TooLong c =

@@ -28,7 +28,7 @@ held : (p : After-field_at)
 held p =
     let a = p.args in
     let u = p.next_use-u in
-    let here = u.ensures.here p.if-not-u.false in
+    let here = u.ensures.here (not-false p.next_use-u.result.found p.if-not-u.false) in
     taken_field (rule_at a.plate.now u.result.place) here.good u.result.which a.most p.field_at-field.result p.field_at-field.ensures
 
 pub start-bs-requires : goal.start-bs-requires
@@ -67,14 +67,14 @@ returns-then-not-u c =
     rw c.stepped-then-not-u.ensures (
       l.invariant.0,
       done a.plate.now a.name.now a.most a.room l.started l.before l.at (branches_of l.bs) l.invariant.1
-          u.result u.ensures c.if-not-u.true,
+          u.result u.ensures (not-true c.next_use-u.result.found c.if-not-u.true),
     )
 
 -- ---- the field of the use
 pub field_at-field-requires : goal.field_at-field-requires
 field_at-field-requires c =
     let u = c.next_use-u in
-    (u.ensures.here c.if-not-u.false, u.ensures.field)
+    (u.ensures.here (not-false c.next_use-u.result.found c.if-not-u.false), u.ensures.field)
 
 pub one_meets_one-requires : goal.one_meets_one-requires
 one_meets_one-requires c = tt
@@ -103,7 +103,7 @@ bounds-bs-0-then-one_meets_one c =
 pub loop-u-smaller-then-one_meets_one : goal.loop-u-smaller-then-one_meets_one
 loop-u-smaller-then-one_meets_one c =
     let u = c.next_use-u in
-    let found = c.if-not-u.false in
+    let found = not-false c.next_use-u.result.found c.if-not-u.false in
     omega (arith, u.ensures.within found, u.ensures.behind found)
 
 pub loop-u-preserved-then-one_meets_one : goal.loop-u-preserved-then-one_meets_one
@@ -111,7 +111,7 @@ loop-u-preserved-then-one_meets_one c =
     let a = c.args in
     let l = c.loop-u in
     let u = c.next_use-u in
-    let found = c.if-not-u.false in
+    let found = not-false c.next_use-u.result.found c.if-not-u.false in
     let ones = c.one_meets_one.ensures c.if-one_meets_one.true in
     let items = l.bs.items in
     let n = l.bs.count in
@@ -136,7 +136,7 @@ returns-then-s c =
     let a = c.args in
     let l = c.loop-u in
     let u = c.next_use-u in
-    let found = c.if-not-u.false in (
+    let found = not-false c.next_use-u.result.found c.if-not-u.false in (
       c.step-s.ensures.1,
       rw c.if-s.true (used_over a.plate.now a.name.now a.most a.room l.started l.before l.at (branches_of l.bs) l.invariant.1
           u.result u.ensures found c.field_at-field.result (held c.before.before.before.before.before).1 c.step-s.result c.step-s.ensures c.if-s.true),
@@ -145,7 +145,7 @@ returns-then-s c =
 pub loop-u-smaller : goal.loop-u-smaller
 loop-u-smaller c =
     let u = c.next_use-u in
-    let found = c.if-not-u.false in
+    let found = not-false c.next_use-u.result.found c.if-not-u.false in
     omega (arith, u.ensures.within found, u.ensures.behind found)
 
 pub loop-u-preserved : goal.loop-u-preserved
@@ -153,7 +153,7 @@ loop-u-preserved c =
     let a = c.args in
     let l = c.loop-u in
     let u = c.next_use-u in
-    let found = c.if-not-u.false in (
+    let found = not-false c.next_use-u.result.found c.if-not-u.false in (
       c.step-s.ensures.1,
       used-on a.plate.now a.name.now a.most a.room l.started l.before l.at (branches_of l.bs) l.invariant.1
           u.result u.ensures found c.field_at-field.result (held c.before.before.before.before.before.before).1 c.step-s.result c.step-s.ensures c.if-s.false,

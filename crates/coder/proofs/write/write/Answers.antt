@@ -13,6 +13,7 @@ use Rattle.coder.proofs.write.write.Tie as tie
 use Rattle.coder.proofs.write.write.Lts as places
 use Rattle.coder.proofs.write.write.Reads as reads
 use Rattle.coder.proofs.write.write.Goals as goal
+use Rattle.coder.proofs.write.write.Goals.{then-k-gt0, else-k-gt0}
 
 abbrev Joined1 : Type 0
 Joined1 = places.Joined1 tie.the-claims reads.Pre reads.Post goal.the-invariant-loop-k goal.the-decreases-loop-k
@@ -31,13 +32,13 @@ barred-now c =
     let n = rows_count bs p.0 in
     let six = rows_six bs p.0 in
     let some : l.k ≤ length (rows bs) = omega arith in
-    ⊎_elim
-    (λ w. (
-      ap length w.1 ∙ length-set l.out (7 * l.k - 1) 124 ∙ l.invariant.1,
-      w.1 ∙ bar (rows bs) six l.k o l.out w.0.taken some (omega arith) l.invariant.2,
-    ))
-    (λ w. (ap length w.1 ∙ l.invariant.1, w.1 ∙ no_bar (rows bs) six l.k o l.out (omega arith) l.invariant.2))
-    c.if-k-gt0.branch
+    elim c.if-k-gt0.branch [
+      then-k-gt0 w ↦ (
+        ap length w.out-is ∙ length-set l.out (7 * l.k - 1) 124 ∙ l.invariant.1,
+        w.out-is ∙ bar (rows bs) six l.k o l.out w.if-k-gt0.true some (omega arith) l.invariant.2,
+      )
+    | else-k-gt0 w ↦ (ap length w.out-is ∙ l.invariant.1, w.out-is ∙ no_bar (rows bs) six l.k o l.out (let e = w.if-k-gt0.false in omega arith) l.invariant.2)
+    ]
 
 pub loop-k-init : goal.loop-k-init
 unfolding joined
