@@ -23,7 +23,6 @@ use Rattle.book.specs.declared.Flaw.TheVariants.{TooMany}
 use Rattle.book.specs.declared.Tally.{Tally}
 use Rattle.book.specs.declared.Noted.TheVariants as Noted
 use Rattle.book.specs.declared.sort.Put.{Put}
-use Rattle.book.specs.declared.sort.Put.TheVariants as Put
 use Rattle.book.specs.declared.note.Judged.TheVariants as Judged
 use Rattle.book.proofs.Faults.{clean}
 use Rattle.book.proofs.Measures.{put_bits}

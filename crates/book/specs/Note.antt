@@ -14,9 +14,7 @@ use Rattle.book.specs.declared.Flaw.{Flaw}
 use Rattle.book.specs.declared.Flaw.TheVariants.{EmptyPattern, LongPattern, ManyAlternatives, NotDigits, TooMany}
 use Rattle.book.specs.declared.Tally.{Tally}
 use Rattle.book.specs.declared.Noted.{Noted}
-use Rattle.book.specs.declared.Noted.TheVariants as Noted
 use Rattle.book.specs.declared.note.Judged.{Judged}
-use Rattle.book.specs.declared.note.Judged.TheVariants as Judged
 
 -- ---- a rule as one number: first code point rising, byte length falling, place rising; and its pattern's hash, which orders nothing
 

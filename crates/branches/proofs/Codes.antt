@@ -8,7 +8,7 @@ use lib.ListN.{length, take, drop, get_or}
 use Rattle.laws.specs.Lists.{same}
 use Rattle.laws.specs.Once.{among, merge, once}
 use Rattle.laws.proofs.Arrays.{mapped_from, mapped_end}
-use Rattle.branches.specs.Branches.{Branch, code}
+use Rattle.branches.specs.Branches.{code}
 use Rattle.branches.specs.Held.{branch_of, FirstOk}
 use Rattle.branches.specs.declared.Branch as one
 use Rattle.branches.proofs.Holding.{no_branch}

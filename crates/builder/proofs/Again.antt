@@ -1,11 +1,9 @@
 -- A rule of parts that are lent; and the rule at the place of a key, read again: it is one, for what says none reads as one without a pattern, and that is
 -- never noted. Assumes nothing.
 use Prim.Native.Nat.{ℕ}
-use mathlib.Core.Path.{◌≡◌, sym, ◌∙◌, ap, subst}
-use mathlib.Core.Logic.{◌⊎◌, ⊎_elim}
+use mathlib.Core.Path.{◌≡◌, refl, sym, ◌∙◌, ap, subst}
 use mathlib.Core.List.{List}
 use native.Mathlib.Omega.{arith}
-use denote.Enum.Declared.{tag_of, declared}
 use lib.ListN.{length, drop}
 use Rattle.laws.proofs.Lists.{rest}
 use Rattle.laws.proofs.Parts.{lent}
@@ -15,7 +13,6 @@ use Rattle.rule_text.specs.Fields.{bar}
 use Rattle.rule_text.specs.declared.Four.{Four}
 use Rattle.rule_text.specs.declared.Entry.{Entry}
 use Rattle.rule_text.specs.declared.Entry.TheVariants as E
-use Rattle.rule_text.specs.contracts.Entry.{enum}
 use Rattle.plate.specs.Plate.{Rule}
 use Rattle.book.specs.Book.{rule_of, rule_fault}
 use Rattle.book.specs.Note.{place_in, Sure}
@@ -35,8 +32,8 @@ IsRule (E.Comment next) = ⊥
 IsRule E.Unknown = ⊥
 
 -- Where a rule is read again, the other arm is never taken.
-pub other_arm : (r : Entry) → IsRule r → (tag_of (declared enum) r ≡ 1) ⊎ ((tag_of (declared enum) r ≡ 2) ⊎ ((tag_of (declared enum) r ≡ 3) ⊎ (tag_of (declared enum) r ≡ 4))) → ⊥
-other_arm (E.Rule four) f k = ⊎_elim (λ e. omega arith) (λ k. ⊎_elim (λ e. omega arith) (λ k. ⊎_elim (λ e. omega arith) (λ e. omega arith) k) k) k
+pub other_arm : (r : Entry) → IsRule r → ((four : Four) → r ≡ E.Rule four → ⊥) → ⊥
+other_arm (E.Rule four) f k = k four refl
 other_arm (E.Folding key target next) f k = f
 other_arm (E.LineEnd next) f k = f
 other_arm (E.Comment next) f k = f

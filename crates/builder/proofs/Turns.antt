@@ -22,7 +22,6 @@ use Rattle.laws.specs.Sort.{sorted}
 use Rattle.book.specs.Note.{places, place_in, rules_in, book_of, Kept, none_noted, FoldingNoted}
 use Rattle.book.specs.declared.Tally.{Tally}
 use Rattle.book.specs.declared.Noted.{Noted}
-use Rattle.book.specs.declared.Noted.TheVariants as Noted
 use Rattle.book.proofs.Ways as Ways
 use Rattle.laws.proofs.Sorting.{some_sorted}
 use Rattle.book.proofs.Noting.{none_kept, kept_later, double_kept, double_noted, rule_kept, rule_noted, rule_met, folding_fault_lem, folding-fine, folding-kept, folding-noted}

@@ -13,7 +13,6 @@ use Rattle.book.specs.Seen.{slots, hash_of}
 use Rattle.book.specs.Note.{rules_in, AllSure, AllMarked, book_of, KeysHeld, Kept, InOrder, flaw_number, RuleNoted, DoubleNoted}
 use Rattle.book.specs.declared.Tally.{Tally}
 use Rattle.book.specs.declared.Noted.{Noted}
-use Rattle.book.specs.declared.Noted.TheVariants as Noted
 use Rattle.builder.specs.Build.{longest_text, Verdict, verdict}
 use Rattle.builder.specs.Build.Verdict.{Faulty, Fine}
 use Rattle.builder.specs.declared.Fault.{Fault}
@@ -21,7 +20,6 @@ use Rattle.builder.specs.declared.Fault.TheVariants.{NotRecognised, Flawed}
 use Rattle.builder.specs.declared.survey.Turn.{Turn}
 use Rattle.builder.specs.declared.survey.Turn.TheVariants.{On, Stop}
 use Rattle.builder.specs.declared.survey.Surveyed.{Surveyed}
-use Rattle.builder.specs.declared.survey.Surveyed.TheVariants as Surveyed
 
 -- 01's number for each fault
 abbrev pub fault_number : Fault → ℕ

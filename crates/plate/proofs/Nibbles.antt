@@ -1,5 +1,5 @@
 -- Digits of four bits tested at once: where no digit has its bit 3 and one of its bits 2 and 1, each is 0 to 9. Assumes nothing.
-use Rattle.std.proofs.Common.{◌≡◌, ℕ, zero, suc, ◌+◌, ◌-◌, ◌*◌, ◌/◌, ◌%◌, ◌^◌, ◌<◌, ◌≤◌, Bool, true, false, cond, not, ◌&&◌, eqb, leb, replicate, sym, refl, ap, ◌∙◌, subst, ap₂, mod-lt, suc-add, zero-add, arith, pow_pos, shr-shr, shr_lt, ne_eqb, le-leb}
+use Rattle.std.proofs.Common.{◌≡◌, ℕ, zero, suc, ◌+◌, ◌*◌, ◌/◌, ◌%◌, ◌^◌, ◌<◌, Bool, true, false, cond, not, ◌&&◌, eqb, leb, replicate, sym, refl, ap, ◌∙◌, subst, ap₂, mod-lt, suc-add, zero-add, arith, pow_pos, shr-shr, shr_lt, ne_eqb, le-leb}
 use lib.Pow.{split}
 use lib.Bits.{bit_and, bit_or, and_block, and_mask, and_zero_r, and_shr, or_shr, and_mod, or_mod}
 use Rattle.laws.proofs.Many.{and_holds}

@@ -1,5 +1,5 @@
 -- Rules noted one by one: a rule behind the others leaves each other group as it is, and lengthens its own or begins it. Assumes nothing.
-use Rattle.std.proofs.Common.{◌≡◌, ℕ, zero, suc, ◌+◌, ◌*◌, ◌/◌, ◌%◌, ◌<◌, ◌≤◌, Bool, true, false, not, eqb, ltb, leb, ◌⊎◌, List, [], ◌∷◌, ◌++◌, length, get_or, take, drop, set, replicate, sym, refl, ap, ◌∙◌, subst, inl, inr, ⊎_elim, le_trans, add-one, arith, length-append, length-set, drop_of_length-le, take_all, get_or-set_other, get_or-set_same, ltb-true, eq-eqb, ne_eqb, eqb-true, le-leb, leb-true}
+use Rattle.std.proofs.Common.{◌≡◌, ℕ, zero, suc, ◌+◌, ◌*◌, ◌/◌, ◌%◌, ◌<◌, ◌≤◌, Bool, true, false, not, eqb, ltb, leb, ◌⊎◌, List, [], ◌∷◌, ◌++◌, length, get_or, take, drop, set, replicate, sym, refl, ap, ◌∙◌, subst, ⊎_elim, le_trans, add-one, arith, length-append, length-set, drop_of_length-le, take_all, get_or-set_other, get_or-set_same, ltb-true, eq-eqb, ne_eqb, eqb-true, le-leb, leb-true}
 use mathlib.Core.Bool.{false≢true}
 use lib.ListN.{length-replicate, get_or-replicate}
 use lib.Seq.{take-append-le, drop-append-le, take-append_seam, drop-append_seam}
@@ -12,7 +12,7 @@ use Rattle.plate.specs.Plate.{Rule, Edition, first_code, good_rule}
 use Rattle.plate.specs.Stands.{Here, Stands}
 use Rattle.plate.specs.Read.{foldings_place, many, past, rule_at, rule_end, rule_count, folding_count, rules_place, accepted_in, edition_of, count_width, accepted, plate_in}
 use Rattle.plate.specs.Answers.{in_order, rule_fits, rule_seen}
-use Rattle.plate.specs.Noted.{half, noted_characters, is_of, is_other, GroupIs, RulesPlaced, NotedFrom, NotedIn, NotedIf, AllPlaced}
+use Rattle.plate.specs.Noted.{half, noted_characters, is_of, is_other, GroupIs, NotedFrom, NotedIn, NotedIf, AllPlaced}
 use Rattle.plate.specs.declared.Seen.{Seen}
 use Rattle.plate.specs.declared.Seen.TheVariants.{Good}
 use Rattle.plate.proofs.Listed.{length_many, get_d_many, many_snoc, past_snoc}

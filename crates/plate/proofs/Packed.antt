@@ -1,5 +1,5 @@
 -- Numbers as bits and bits as bytes: each is read as it was written, by induction on the width and on the bits. Assumes nothing.
-use Rattle.std.proofs.Common.{◌≡◌, ℕ, zero, suc, ◌+◌, ◌-◌, ◌*◌, ◌/◌, ◌%◌, ◌^◌, ◌<◌, List, [], ◌∷◌, ◌++◌, length, replicate, sym, refl, ap, ◌∙◌, subst, ap₂, append_assoc, append-nil, add-zero, add-suc, suc-add, pow-suc, zero-add, add-one, arith, length-append}
+use Rattle.std.proofs.Common.{◌≡◌, ℕ, zero, suc, ◌+◌, ◌*◌, ◌/◌, ◌%◌, ◌^◌, ◌<◌, List, [], ◌∷◌, ◌++◌, length, replicate, sym, refl, ap, ◌∙◌, subst, ap₂, append_assoc, append-nil, add-zero, add-suc, suc-add, pow-suc, zero-add, add-one, arith, length-append}
 use lib.ListN.{replicate-append-replicate}
 use Rattle.laws.specs.Lists.{cat}
 use Rattle.laws.proofs.Bits.{half, odd}

@@ -1,7 +1,7 @@
 -- Plain foldings one behind the other: what the loop over them keeps. Keys rise and targets are gathered, so that only the last key and all targets together
 -- need be below the surrogates. Assumes nothing.
-use Rattle.std.proofs.Common.{◌≡◌, ℕ, ◌+◌, ◌-◌, ◌*◌, ◌/◌, ◌%◌, ◌^◌, ◌<◌, ◌≤◌, true, List, sym, refl, ap, ◌∙◌, subst, ap₂, arith}
-use lib.Bits.{bit_and, bit_or, or_add_and, and_le_l, and_le_r, or_shr, or_mod}
+use Rattle.std.proofs.Common.{◌≡◌, ℕ, ◌+◌, ◌-◌, ◌*◌, ◌/◌, ◌%◌, ◌^◌, ◌<◌, ◌≤◌, true, List, sym, refl, ap, ◌∙◌, arith}
+use lib.Bits.{bit_or, or_add_and, and_le_l, and_le_r, or_shr, or_mod}
 use Rattle.plate.specs.Bits.{number_at}
 use Rattle.plate.specs.Window.{Holds}
 use Rattle.plate.specs.Answers.{foldings_good}

@@ -9,7 +9,7 @@ use Rattle.plate.specs.Plate.{good_field, nonzero_scalar}
 use Rattle.plate.specs.Read.{field_at, field_end}
 use Rattle.plate.specs.Window.{Holds}
 use Rattle.plate.specs.Plain.{Takes, Passes, Ascii, Double}
-use Rattle.plate.specs.Answers.{bytes_at, front_of, good_text, first_of, last_digits, alternative_step, alternatives_step, field_step, fields_step, key_behind}
+use Rattle.plate.specs.Answers.{bytes_at, front_of, good_text, first_of, alternative_step, alternatives_step, field_step, fields_step, key_behind}
 use Rattle.plate.specs.declared.Front.TheVariants as FrontIs
 use Rattle.plate.specs.declared.First.TheVariants as FirstIs
 use Rattle.plate.specs.declared.Step.TheVariants.{To}

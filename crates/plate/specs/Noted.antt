@@ -1,5 +1,5 @@
 -- What is noted of a plate's rules while it is accepted: where each stands, and which rules are the group of a small first code point. Assumes nothing.
-use Rattle.std.specs.Prelude.{◌≡◌, ℕ, ◌+◌, ◌*◌, ◌/◌, ◌%◌, ◌<◌, ◌≤◌, Bool, true, false, not, List, length, take, drop, replicate, ◌==◌, nat_le, nat_lt, slice_index}
+use Rattle.std.specs.Prelude.{◌≡◌, ℕ, ◌/◌, ◌%◌, ◌<◌, ◌≤◌, Bool, true, false, not, List, length, take, drop, replicate, ◌==◌, nat_le, nat_lt, slice_index}
 use Rattle.std.proofs.Math.Seq.{slice}
 use Rattle.laws.specs.Lists.{every}
 use Rattle.chars.specs.Letters.{latin_end}

@@ -1,6 +1,6 @@
 -- What an accepted plate says at a place, for the coder: where a rule stands, its pattern's characters, its fields as they are held. No bit is named
 -- above this: a rule's place comes from the place of the one before. Assumes nothing.
-use Rattle.std.specs.Prelude.{◌≡◌, ℕ, zero, suc, ◌+◌, ◌-◌, ◌*◌, ◌/◌, ◌^◌, ◌<◌, ◌≤◌, true, false, cond, List, [], ◌∷◌, ◌++◌, map, length, drop, replicate, ◌==◌, nat_lt}
+use Rattle.std.specs.Prelude.{◌≡◌, ℕ, zero, suc, ◌+◌, ◌-◌, ◌*◌, ◌/◌, ◌^◌, ◌<◌, ◌≤◌, true, cond, List, [], ◌∷◌, ◌++◌, map, length, drop, replicate, ◌==◌, nat_lt}
 use Rattle.chars.specs.Utf8.{char_of, chars_of, code_of, width_of, is_text}
 use Rattle.plate.specs.Plate.{Rule, Folding, most_alternatives, most_digits, good_rule}
 use Rattle.plate.specs.Most.{plate_most}

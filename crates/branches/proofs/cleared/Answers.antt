@@ -1,16 +1,12 @@
 -- `branches::cleared` meets its contract. The loop keeps: behind the first place stand blanks up to i, and from i on what stood there. Assumes nothing.
-use Prim.Native.Nat.{ℕ, ◌≤◌, ◌<◌, ◌-◌}
-use mathlib.Core.Path.{◌≡◌, refl, ◌∙◌}
-use mathlib.Core.List.{List, ◌++◌}
+use Prim.Native.Nat.{◌<◌}
+use mathlib.Core.Path.{refl, ◌∙◌}
 use native.Mathlib.Nat.{le_refl}
 use native.Mathlib.Omega.{arith}
-use borrow.Author.Rules.{rules}
-use lib.ListN.{length, take, drop, replicate, length-set}
+use lib.ListN.{length-set}
 use lib.Seq.{take-set-le}
-use Rattle.branches.specs.Held.{blank_branch, most_branches}
-use Rattle.branches.specs.declared.Branch.{Branch}
+use Rattle.branches.specs.Held.{most_branches}
 use Rattle.branches.proofs.Holding.{none_blanked, blanked, cleared_ok}
-use Rattle.branches.proofs.cleared.Invariants.{Kept}
 use Rattle.branches.proofs.cleared.Goals as goal
 
 pub loop-i-init : goal.loop-i-init

@@ -1,15 +1,10 @@
 -- `branches::cleared` meets its contract. The loop keeps: behind the first place stand blanks up to i, and from i on what stood there. Assumes nothing.
-use Prim.Native.Nat.{ℕ, ◌≤◌, ◌<◌, ◌-◌}
-use mathlib.Core.Path.{◌≡◌, refl, ◌∙◌}
+use Prim.Native.Nat.{ℕ, ◌≤◌, ◌-◌}
+use mathlib.Core.Path.{◌≡◌}
 use mathlib.Core.List.{List, ◌++◌}
-use native.Mathlib.Nat.{le_refl}
-use native.Mathlib.Omega.{arith}
-use borrow.Author.Rules.{rules}
-use lib.ListN.{length, take, drop, replicate, length-set}
-use lib.Seq.{take-set-le}
+use lib.ListN.{length, take, drop, replicate}
 use Rattle.branches.specs.Held.{blank_branch, most_branches}
 use Rattle.branches.specs.declared.Branch.{Branch}
-use Rattle.branches.proofs.Holding.{none_blanked, blanked, cleared_ok}
 use Rattle.branches.proofs.cleared.Given as goal
 
 -- What the loop keeps beside its bounds: before the first place nothing changes, behind it stand the blanks made.

@@ -1,13 +1,10 @@
 -- `branches::ends_with` meets its contract. The loop keeps: the bytes compared from here on are the same exactly if the last replacement ends with the
 -- alternative. Assumes nothing.
-use Prim.Native.Nat.{zero-le, ◌≤◌, ◌-◌}
+use Prim.Native.Nat.{◌≤◌, ◌-◌}
 use mathlib.Core.Path.{◌≡◌}
-use native.Mathlib.Omega.{arith}
-use borrow.Author.Rules.{rules}
 use lib.ListN.{take, drop}
 use Rattle.laws.specs.Lists.{same}
 use Rattle.branches.specs.Branches.{ends_with}
-use Rattle.branches.proofs.Digits.{too_long, end_part, end_turn, end_differs, end_same}
 use Rattle.branches.proofs.ends_with.Given as goal
 
 abbrev pub invariant-loop-i : goal.invariant-loop-i

@@ -1,6 +1,5 @@
 -- `branches::extend` meets its contract: each way out is one case of the definition. Assumes nothing.
 use mathlib.Core.Path.{◌∙◌}
-use borrow.Author.Rules.{rules}
 use Rattle.laws.proofs.Tests.{told}
 use Rattle.branches.proofs.Digits.{met_anyway, met_again, met_new}
 use Rattle.branches.proofs.extend.Goals as goal

@@ -1,19 +1,13 @@
 -- `branches::once_each` meets its contract. The loop over the branches keeps: the codes left, merged behind those kept, are all of them once. A turn is
 -- Codes.code-dropped or Codes.code-kept. The loop over those kept keeps: the code is among those from here on exactly if it is among all. Assumes nothing.
-use Prim.Native.Nat.{ℕ, ◌-◌, ◌≤◌, ◌<◌, zero-le}
-use mathlib.Core.Path.{◌≡◌, refl, sym, ap, ◌∙◌}
+use Prim.Native.Nat.{ℕ, ◌-◌, ◌≤◌}
+use mathlib.Core.Path.{◌≡◌}
 use mathlib.Core.List.{List, map}
-use native.Mathlib.Omega.{arith}
-use borrow.Author.Rules.{rules}
-use lib.ListN.{take, drop, length-map}
+use lib.ListN.{take, drop}
 use Rattle.laws.specs.Lists.{same}
 use Rattle.laws.specs.Once.{among, merge, once}
-use Rattle.laws.proofs.Tests.{told}
-use Rattle.branches.specs.Branches.{code}
-use Rattle.branches.specs.Held.{most_branches, branches_of}
-use Rattle.branches.proofs.Holding.{Filling, first_ok, none_ok, item_ok, items_count, store_ok, store_view, store_behind, blank_behind}
-use Rattle.branches.proofs.Steps.{among_turn, among_hit, among_end}
-use Rattle.branches.proofs.Codes.{code_of, codes_of, once_one, code_dropped, code_kept, codes_made}
+use Rattle.branches.proofs.Holding.{Filling}
+use Rattle.branches.proofs.Codes.{code_of}
 use Rattle.branches.proofs.once_each.Given as goal
 
 abbrev pub invariant-loop-h : goal.invariant-loop-h

@@ -1,7 +1,5 @@
 -- `branches::same_branch` meets its contract: its two tests are those of the definition, in its order. Assumes nothing.
 use mathlib.Core.Path.{sym}
-use borrow.Author.Tests.{not-true, not-false}
-use borrow.Author.Rules.{rules}
 use Rattle.laws.proofs.Tests.{told, and_left_false}
 use Rattle.branches.proofs.Digits.{and_rest}
 use Rattle.branches.proofs.same_branch.Goals as goal

@@ -1,12 +1,9 @@
 -- `branches::same_digits` meets its contract. The loop keeps: all six from here on are the same exactly if all six are; and all six are exactly if those
 -- that count are, for the counts are equal and the others blank (Digits.whole). Assumes nothing.
-use Prim.Native.Nat.{zero-le, ◌≤◌, ◌-◌}
-use mathlib.Core.Path.{refl, ◌≡◌}
-use native.Mathlib.Omega.{arith}
-use borrow.Author.Rules.{rules}
+use Prim.Native.Nat.{◌≤◌, ◌-◌}
+use mathlib.Core.Path.{◌≡◌}
 use lib.ListN.{drop}
 use Rattle.laws.specs.Lists.{same}
-use Rattle.branches.proofs.Digits.{counts_differ, digit_same, digit_differs, digits_same}
 use Rattle.branches.proofs.same_digits.Given as goal
 
 abbrev pub invariant-loop-i : goal.invariant-loop-i

@@ -1,5 +1,4 @@
 -- `branches::start` meets its contract: the empty branch in front of blank ones, and it alone counts. Assumes nothing.
-use borrow.Author.Rules.{rules}
 use Rattle.branches.proofs.Holding.{start_ok}
 use Rattle.branches.proofs.start.Goals as goal
 

@@ -1,20 +1,16 @@
 -- `branches::step` meets its contract. The loops over the branches and the alternatives keep: what the step still makes from here on, merged behind what it
 -- has made, is what it makes from the start. A turn is Steps.dropped or Steps.kept, the way out over room Steps.too_many. The loop over the branches made
 -- keeps: the new one is among those from here on exactly if it is among all. Assumes nothing.
-use Prim.Native.Nat.{◌+◌, ◌≤◌, ◌<◌, ◌-◌, zero-le}
-use mathlib.Core.Path.{◌≡◌, refl, sym, ap, ◌∙◌}
-use mathlib.Core.List.{List, map}
+use Prim.Native.Nat.{◌<◌, zero-le}
+use mathlib.Core.Path.{refl, sym, ap, ◌∙◌}
+use mathlib.Core.List.{map}
 use native.Mathlib.Omega.{arith}
 use borrow.Author.Rules.{rules}
-use lib.ListN.{take, drop}
 use Rattle.laws.proofs.Tests.{told}
-use Rattle.plate.specs.Field.{alternative_of}
-use Rattle.branches.specs.Branches.{met, same_branch}
-use Rattle.laws.specs.Once.{among, merge}
+use Rattle.branches.specs.Branches.{same_branch}
 use Rattle.branches.specs.Held.{branch_of, most_branches, use_of}
-use Rattle.branches.specs.Branches as defined
-use Rattle.branches.proofs.Holding.{Filling, first_ok, none_ok, item_ok, items_count, store_ok, store_view, store_behind, blank_behind, all_ok, fits}
-use Rattle.branches.proofs.Steps.{still, among_turn, among_hit, among_end, begins, alternative_ok, nothing, opens, closes, done, dropped, kept, too_many}
+use Rattle.branches.proofs.Holding.{first_ok, none_ok, item_ok, items_count, store_ok, store_view, store_behind, blank_behind, all_ok, fits}
+use Rattle.branches.proofs.Steps.{among_turn, among_hit, among_end, begins, alternative_ok, nothing, opens, closes, done, dropped, kept, too_many}
 use Rattle.branches.proofs.step.Goals as goal
 
 pub loop-i-init : goal.loop-i-init

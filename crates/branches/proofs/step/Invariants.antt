@@ -1,20 +1,17 @@
 -- `branches::step` meets its contract. The loops over the branches and the alternatives keep: what the step still makes from here on, merged behind what it
 -- has made, is what it makes from the start. A turn is Steps.dropped or Steps.kept, the way out over room Steps.too_many. The loop over the branches made
 -- keeps: the new one is among those from here on exactly if it is among all. Assumes nothing.
-use Prim.Native.Nat.{◌+◌, ◌≤◌, ◌<◌, ◌-◌, zero-le}
-use mathlib.Core.Path.{◌≡◌, refl, sym, ap, ◌∙◌}
+use Prim.Native.Nat.{◌+◌, ◌≤◌, ◌-◌}
+use mathlib.Core.Path.{◌≡◌}
 use mathlib.Core.List.{List, map}
-use native.Mathlib.Omega.{arith}
-use borrow.Author.Rules.{rules}
 use lib.ListN.{take, drop}
-use Rattle.laws.proofs.Tests.{told}
 use Rattle.plate.specs.Field.{alternative_of}
 use Rattle.branches.specs.Branches.{met, same_branch}
 use Rattle.laws.specs.Once.{among, merge}
-use Rattle.branches.specs.Held.{branch_of, most_branches, use_of}
+use Rattle.branches.specs.Held.{branch_of, use_of}
 use Rattle.branches.specs.Branches as defined
-use Rattle.branches.proofs.Holding.{Filling, first_ok, none_ok, item_ok, items_count, store_ok, store_view, store_behind, blank_behind, all_ok, fits}
-use Rattle.branches.proofs.Steps.{still, among_turn, among_hit, among_end, begins, alternative_ok, nothing, opens, closes, done, dropped, kept, too_many}
+use Rattle.branches.proofs.Holding.{Filling}
+use Rattle.branches.proofs.Steps.{still}
 use Rattle.branches.proofs.step.Given as goal
 
 abbrev pub invariant-loop-h : goal.invariant-loop-h

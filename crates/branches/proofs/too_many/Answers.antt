@@ -1,6 +1,5 @@
 -- `branches::too_many` meets its contract: 64 blank branches of which none counts hold no branch. Assumes nothing.
 use mathlib.Core.Path.{refl}
-use borrow.Author.Rules.{rules}
 use Rattle.branches.proofs.Holding.{blanks_ok}
 use Rattle.branches.proofs.too_many.Goals as goal
 

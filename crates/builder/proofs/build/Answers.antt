@@ -40,10 +40,10 @@ abbrev tally : After-known_told3 → Tally
 tally c = c.in-Fine.tally
 
 abbrev keys : After-known_told3 → List ℕ
-keys c = c.survey.new.seen.0
+keys c = c.survey.new.keys
 
 abbrev foldings : After-known_told3 → List ℕ
-foldings c = c.survey.new.seen.1.1.0
+foldings c = c.survey.new.foldings
 
 abbrev book : After-known_told3 → Book
 book c = book_of (view c.args.text.now) (tally c) (keys c) (foldings c)
@@ -114,7 +114,7 @@ returns-in-Faulty c =
     let v = verdict blank (items a.text.now) in
     let s = c.survey in
     faulty a.text.now a.flag a.out.now (decides c.before.before.before.before.before.before.before.before.before.before) _ c.in-Faulty.at c.line_of.ensures
-    (subst (SurveyIs a.text.now s.last.1.0 s.last.1.1.1.0 v) c.in-Faulty.is s.ensures)
+    (subst (SurveyIs a.text.now s.new.keys s.new.foldings v) c.in-Faulty.is s.ensures)
 
 pub returns-else-out-tally : goal.returns-else-out-tally
 returns-else-out-tally c =
@@ -123,5 +123,5 @@ returns-else-out-tally c =
     let e = size c.before.before.before.before.before.before.before.before.before.before in
     let r = c.write_plate.ensures.1 in
     let room : c.write_plate.result ≤ length a.out.now = omega arith in
-    plate-built a.text.now a.flag a.out.now (decides c.before.before.before.before.before.before.before.before.before.before.before.before.before.before.before.before.before.before) (book c.before.before.before.before.before.before.before.before.before.before) (fine c.before.before.before.before.before.before.before.before.before.before).2 c.write_plate.result c.write_plate.new.0 room
+    plate-built a.text.now a.flag a.out.now (decides c.before.before.before.before.before.before.before.before.before.before.before.before.before.before.before.before.before.before) (book c.before.before.before.before.before.before.before.before.before.before) (fine c.before.before.before.before.before.before.before.before.before.before).2 c.write_plate.result c.write_plate.new.out room
     c.write_plate.ensures

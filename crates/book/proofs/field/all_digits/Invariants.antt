@@ -1,12 +1,11 @@
 -- `field::all_digits` meets its contract. The loop keeps: the alternatives from here on are sound, counting the digits passed, where all are.
 -- Each way round and out is a law of Fields. Assumes nothing.
-use mathlib.Core.Path.{◌≡◌, sym, ◌∙◌}
-use Prim.Native.Nat.{◌-◌, ◌<◌, ◌≤◌}
-use native.Mathlib.Omega.{arith}
+use mathlib.Core.Path.{◌≡◌}
+use Prim.Native.Nat.{◌-◌, ◌≤◌}
 use lib.ListN.{length, drop}
 use Rattle.laws.specs.Lists.{every, split_at}
 use Rattle.chars.specs.Digits.{is_alternative}
-use Rattle.book.proofs.Fields.{sound_from, sound_start, sound_end, sound_sep, sound-low, sound-high, sound-full, sound_more}
+use Rattle.book.proofs.Fields.{sound_from}
 use Rattle.book.proofs.field.all_digits.Given as goal
 
 abbrev pub invariant-loop-i : goal.invariant-loop-i

@@ -8,7 +8,6 @@ use Rattle.laws.proofs.Lists.{rest}
 use Rattle.laws.proofs.Parts.{lent_length}
 use Rattle.laws.specs.Lists.{until}
 use Rattle.laws.proofs.Counts.{until_end}
-use borrow.Author.Rules.{rules}
 use Rattle.book.proofs.field.alternative_end.Goals as goal
 
 pub returns-then-field-at : goal.returns-then-field-at

@@ -1,7 +1,6 @@
 -- `field::parse_branch` meets its contract. One alternative stands more than separators (Fields), and the two tests are the definition's, in its order. Assumes nothing.
 use Rattle.laws.proofs.Tests.{told}
 use Rattle.book.proofs.Fields.{too_many, many, not_digits}
-use borrow.Author.Rules.{rules}
 use Rattle.book.proofs.field.parse_branch.Goals as goal
 
 pub returns-then-seps-ge-MOST_ALTERNATIVES : goal.returns-then-seps-ge-MOST_ALTERNATIVES

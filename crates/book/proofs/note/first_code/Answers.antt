@@ -1,6 +1,5 @@
 -- `note::first_code` meets its contract: a character has its code point, all else 0. Assumes nothing.
 use mathlib.Core.Path.{sym, ◌∙◌, ap}
-use borrow.Author.Rules.{rules}
 use Rattle.chars.specs.Utf8.{code_of}
 use Rattle.book.proofs.note.first_code.Goals as goal
 

@@ -1,7 +1,6 @@
 -- `note::measure_rule` meets its contract. The tests stand in 01's order, so the first that fails is the rule's first fault (Ways). Assumes nothing.
 use Prim.Native.Nat.{ℕ, ◌≤◌}
 use native.Mathlib.Omega.{arith}
-use borrow.Author.Rules.{rules}
 use lib.ListN.{length}
 use Rattle.plate.specs.Plate.{Rule}
 use Rattle.book.specs.Book.{rule_of}

@@ -1,7 +1,6 @@
 -- `note::note_double` meets its contract: the fault is the rule's, or it is counted. Assumes nothing.
 use mathlib.Core.Path.{refl, subst}
 use native.Mathlib.Omega.{arith}
-use borrow.Author.Rules.{rules}
 use Rattle.plate.specs.Plate.{Rule}
 use Rattle.book.specs.Book.{rule_of}
 use Rattle.book.specs.Note.{RuleIs}

@@ -2,7 +2,6 @@
 use Prim.Native.Nat.{ℕ, ◌<◌}
 use mathlib.Core.Path.{refl, sym, subst}
 use native.Mathlib.Omega.{arith}
-use borrow.Author.Rules.{rules}
 use Rattle.plate.specs.Plate.{Rule}
 use Rattle.book.specs.Book.{rule_of}
 use Rattle.book.specs.Seen.{hashes}
@@ -27,12 +26,11 @@ fine : (c : After-known_told2) → RuleIs (rule c) c.args.tally.read (Fine c.in-
 fine c = subst (RuleIs (rule c) c.args.tally.read) c.in-Fine.is c.measure_rule.ensures
 
 pub key_of-requires : goal.key_of-requires
-key_of-requires c =
-    (
-      (clean (rule c.before) c.args.tally.read (fine c.before).0).short,
-      c.requires.low,
-      subst (λ (h : ℕ). h < hashes) (sym c.requires.hashed) (hash_small c.args.pattern.now),
-    )
+key_of-requires c = (
+  (clean (rule c.before) c.args.tally.read (fine c.before).0).short,
+  c.requires.low,
+  subst (λ (h : ℕ). h < hashes) (sym c.requires.hashed) (hash_small c.args.pattern.now),
+)
 
 pub bounds-keys-n : goal.bounds-keys-n
 bounds-keys-n c =

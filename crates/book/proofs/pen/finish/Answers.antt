@@ -1,7 +1,6 @@
 -- `pen::finish` meets its contract. Zeros fill the last byte, and packing does not see them (Inks.finished). Assumes nothing.
 use mathlib.Core.Path.{refl}
 use native.Mathlib.Omega.{arith}
-use borrow.Author.Rules.{rules}
 use lib.Pow.{pow_pos}
 use Rattle.book.proofs.Inks.{fill_ready, finished}
 use Rattle.book.proofs.pen.finish.Goals as goal

@@ -1,12 +1,9 @@
 -- `pen::put` meets its contract. The loop keeps the bits that stand written and held; a turn moves a whole byte from the pen to the buffer (Inks.byte-turn). Assumes nothing.
-use Prim.Native.Nat.{◌+◌, ◌*◌, ◌-◌, ◌^◌, ◌<◌, ◌≤◌}
-use mathlib.Core.Path.{◌≡◌, refl, ◌∙◌}
+use Prim.Native.Nat.{◌+◌, ◌*◌, ◌^◌, ◌<◌, ◌≤◌}
+use mathlib.Core.Path.{◌≡◌}
 use mathlib.Core.List.{◌++◌}
-use native.Mathlib.Omega.{arith}
 use lib.ListN.{length, take, drop}
 use Rattle.plate.specs.Bits.{bits_of, unpack}
-use Rattle.plate.proofs.Packed.{length_bits_of}
-use Rattle.book.proofs.Inks.{shl_one, shl_pos, joined_lt, fits, byte_lt, byte_turn, not_reached, both_bits}
 use Rattle.book.proofs.pen.put.Given as goal
 
 abbrev pub invariant-loop-count : goal.invariant-loop-count

@@ -1,11 +1,8 @@
 -- `seen::hash_of` meets its contract. The loop keeps: the hash from here on is the hash of all (Hashes.hash-turn). Assumes nothing.
-use Prim.Native.Nat.{ℕ, ◌+◌, ◌*◌, ◌%◌, ◌-◌, ◌<◌, ◌≤◌}
-use mathlib.Core.Path.{◌≡◌, refl, sym, ◌∙◌, ap}
-use native.Mathlib.Omega.{arith}
-use borrow.Author.Rules.{rules}
+use Prim.Native.Nat.{◌-◌, ◌<◌, ◌≤◌}
+use mathlib.Core.Path.{◌≡◌}
 use lib.ListN.{length, drop}
-use Rattle.book.specs.Seen.{hashes, spread, hash_from, hash_of}
-use Rattle.book.proofs.Hashes.{hash_turn, hash_end}
+use Rattle.book.specs.Seen.{hashes, hash_from, hash_of}
 use Rattle.book.proofs.seen.hash_of.Given as goal
 
 abbrev pub invariant-loop-k : goal.invariant-loop-k

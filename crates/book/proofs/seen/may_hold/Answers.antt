@@ -1,5 +1,4 @@
 -- `seen::may_hold` meets its contract, by its two arms (Hashes.hold-own, hold-other). Assumes nothing.
-use borrow.Author.Rules.{rules}
 use Rattle.book.proofs.Hashes.{hold_own, hold_other}
 use Rattle.book.proofs.seen.may_hold.Goals as goal
 

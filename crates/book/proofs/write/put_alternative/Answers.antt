@@ -1,6 +1,5 @@
 -- `write::put_alternative` meets its contract: the count, and the digits behind it. Assumes nothing.
 use native.Mathlib.Omega.{arith}
-use borrow.Author.Rules.{rules}
 use lib.ListN.{length}
 use Rattle.laws.specs.Lists.{cat}
 use Rattle.plate.specs.Bits.{bits_of}

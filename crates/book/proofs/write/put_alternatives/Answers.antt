@@ -4,13 +4,10 @@ use mathlib.Core.Path.{◌≡◌, sym, subst, ap}
 use mathlib.Core.Bool.{true}
 use mathlib.Core.List.{List, []}
 use native.Mathlib.Omega.{arith}
-use borrow.Author.Rules.{rules}
-use lib.ListN.{length, take, drop}
+use lib.ListN.{length, take}
 use Rattle.laws.specs.Lists.{cat, split_at}
 use Rattle.chars.specs.Digits.{is_alternative}
-use Rattle.laws.proofs.Splits.{behind}
 use Rattle.plate.specs.Written.{alternative_bits}
-use Rattle.book.specs.Pen.{Wrote}
 use Rattle.book.proofs.Runs.{every_get}
 use Rattle.book.proofs.Fields.{all_left, this, others, sep_behind}
 use Rattle.book.proofs.Inks.{wrote_none, wrote_as, ready_as, each_ready, each_turn, each_end}

@@ -1,18 +1,14 @@
 -- `write::put_field` meets its contract: the count, and the alternatives behind it. A field without fault has alternatives. Assumes nothing.
 use Prim.Native.Nat.{ℕ}
 use mathlib.Core.Path.{◌≡◌, refl, sym, ap}
-use mathlib.Core.Logic.{◌⊎◌, ⊎_elim}
 use mathlib.Core.List.{List}
 use native.Mathlib.Omega.{arith}
-use borrow.Author.Rules.{rules}
 use lib.ListN.{length}
-use denote.Enum.Declared.{tag_of, declared}
 use Rattle.laws.specs.Lists.{cat, split_at}
 use Rattle.book.specs.Book.{field_fault}
 use Rattle.book.specs.Field.{Fine, Says}
 use Rattle.book.specs.declared.Alternatives.{Alternatives}
 use Rattle.book.specs.declared.Alternatives.TheVariants.{Many, TooMany, NotDigits}
-use Rattle.book.specs.contracts.Alternatives.{enum}
 use Rattle.plate.specs.Bits.{bits_of}
 use Rattle.plate.specs.Written.{alternative_bits}
 use Rattle.book.proofs.Faults.{field_digits}

@@ -1,6 +1,5 @@
 -- `write::put_head` meets its contract: plate tells the head of so many rules (Scripts.told-head). Assumes nothing.
 use mathlib.Core.Path.{sym}
-use borrow.Author.Rules.{rules}
 use Rattle.book.proofs.Inks.{ready_as, wrote_as}
 use Rattle.book.proofs.Scripts.{told_head}
 use Rattle.book.proofs.write.put_head.Goals as goal

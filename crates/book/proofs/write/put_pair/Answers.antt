@@ -1,6 +1,5 @@
 -- `write::put_pair` meets its contract: the key, and the target behind it. Assumes nothing.
 use Prim.Native.Nat.{◌/◌, ◌%◌}
-use borrow.Author.Rules.{rules}
 use Rattle.plate.specs.Bits.{bits_of}
 use Rattle.book.proofs.Inks.{wrote_then}
 use Rattle.book.proofs.write.put_pair.Goals as goal

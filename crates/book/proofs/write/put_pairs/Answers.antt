@@ -1,12 +1,10 @@
 -- `write::put_pairs` meets its contract. The loop keeps: the first k foldings are written (Inks.first-turn). Assumes nothing.
-use Prim.Native.Nat.{◌-◌, ◌<◌, ◌≤◌}
+use Prim.Native.Nat.{◌<◌, ◌≤◌}
 use mathlib.Core.Path.{sym, subst}
 use native.Mathlib.Omega.{arith}
 use lib.ListN.{length, take}
 use lib.Seq.{length-take-le, get_or-take}
-use Rattle.laws.specs.Lists.{cat}
 use Rattle.plate.specs.Written.{folding_bits}
-use Rattle.book.specs.Pen.{Wrote}
 use Rattle.book.specs.Sort.{folding_in, Small}
 use Rattle.book.proofs.Keys.{small_at}
 use Rattle.book.proofs.Inks.{wrote_none, wrote_as, ready_as, first_ready, first_turn, each_end}

@@ -1,6 +1,5 @@
 -- `write::put_parts` meets its contract: five parts, one behind the other (Scripts.wrote-rule). Assumes nothing.
 use native.Mathlib.Omega.{arith}
-use borrow.Author.Rules.{rules}
 use Rattle.plate.specs.Plate.{Rule}
 use Rattle.book.specs.Book.{rule_of}
 use Rattle.book.proofs.Faults.{Clean, clean}
@@ -24,32 +23,29 @@ pub put-counted-requires : goal.put-counted-requires
 put-counted-requires c = let few = (fine c.before).short in (omega arith, omega arith, ready_count (rule c.before) c.requires.1)
 
 pub put_run-first-requires : goal.put_run-first-requires
-put_run-first-requires c =
-    (
-      omega arith,
-      bytes_fit (rule c.before.before.before.before.before).pattern (λ k. (c.shared_slice_known-1.given k).fits),
-      ready_bytes (rule c.before.before.before.before.before) c.requires.1 c.put-counted.ensures,
-    )
+put_run-first-requires c = (
+  omega arith,
+  bytes_fit (rule c.before.before.before.before.before).pattern (λ k. (c.shared_slice_known-1.given k).fits),
+  ready_bytes (rule c.before.before.before.before.before) c.requires.1 c.put-counted.ensures,
+)
 
 pub put_field-second-requires : goal.put_field-second-requires
 put_field-second-requires c =
     ((fine c.before.before.before.before.before.before.before.before.before).start, ready-start (rule c.before.before.before.before.before.before.before.before.before) c.requires.1 c.put-counted.ensures c.put_run-first.ensures)
 
 pub put_field-third-requires : goal.put_field-third-requires
-put_field-third-requires c =
-    (
-      (fine c.before.before.before.before.before.before.before.before.before.before.before.before.before).vowel,
-      ready-vowel (rule c.before.before.before.before.before.before.before.before.before.before.before.before.before) c.requires.1 c.put-counted.ensures c.put_run-first.ensures
-          c.put_field-second.ensures,
-    )
+put_field-third-requires c = (
+  (fine c.before.before.before.before.before.before.before.before.before.before.before.before.before).vowel,
+  ready-vowel (rule c.before.before.before.before.before.before.before.before.before.before.before.before.before) c.requires.1 c.put-counted.ensures c.put_run-first.ensures
+      c.put_field-second.ensures,
+)
 
 pub put_field-requires : goal.put_field-requires
-put_field-requires c =
-    (
-      (fine c.before.before.before.before.before.before.before.before.before.before.before.before.before.before.before.before.before).other,
-      ready-other (rule c.before.before.before.before.before.before.before.before.before.before.before.before.before.before.before.before.before) c.requires.1 c.put-counted.ensures c.put_run-first.ensures
-          c.put_field-second.ensures c.put_field-third.ensures,
-    )
+put_field-requires c = (
+  (fine c.before.before.before.before.before.before.before.before.before.before.before.before.before.before.before.before.before).other,
+  ready-other (rule c.before.before.before.before.before.before.before.before.before.before.before.before.before.before.before.before.before) c.requires.1 c.put-counted.ensures c.put_run-first.ensures
+      c.put_field-second.ensures c.put_field-third.ensures,
+)
 
 pub returns : goal.returns
 returns c =

@@ -1,12 +1,8 @@
 -- `write::put_run` meets its contract. The loop keeps: the bytes so far are written (Inks.each_turn). Assumes nothing.
-use Prim.Native.Nat.{ℕ, ◌-◌, ◌<◌, ◌≤◌, ◌^◌}
+use Prim.Native.Nat.{ℕ, ◌-◌, ◌<◌, ◌^◌}
 use mathlib.Core.Path.{sym, subst, ap}
 use native.Mathlib.Omega.{arith}
-use borrow.Author.Rules.{rules}
-use lib.ListN.{length, take}
 use Rattle.plate.specs.Bits.{bits_of}
-use Rattle.book.specs.Pen.{Wrote}
-use Rattle.book.specs.Writing.{run_bits}
 use Rattle.book.proofs.Runs.{fitting_at}
 use Rattle.book.proofs.Inks.{wrote_none, wrote_as, ready_as, each_ready, each_turn, each_end}
 use Rattle.book.proofs.write.put_run.Goals as goal

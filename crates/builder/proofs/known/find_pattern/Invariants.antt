@@ -1,14 +1,11 @@
 -- `known::find_pattern` meets its contract. The loop keeps: one of the keys left has the pattern exactly if one of all has. Assumes nothing.
 use Prim.Native.Nat.{◌-◌, ◌≤◌}
-use mathlib.Core.Path.{◌≡◌, refl, sym, ◌∙◌}
-use native.Mathlib.Omega.{arith}
-use lib.ListN.{length, take, drop, get_or}
+use mathlib.Core.Path.{◌≡◌}
+use lib.ListN.{take, drop}
 use Rattle.laws.specs.Lists.{some}
 use Rattle.plate.specs.Plate.{of_pattern}
-use Rattle.book.specs.Note.{rules_in, Sure}
-use Rattle.book.proofs.Doubles.{other_hash}
+use Rattle.book.specs.Note.{rules_in}
 use Rattle.builder.specs.Survey.{view}
-use Rattle.builder.proofs.Patterns.{sure_here, pass, hit, none_left}
 use Rattle.builder.proofs.known.find_pattern.Given as goal
 
 abbrev pub invariant-loop-i : goal.invariant-loop-i

@@ -3,7 +3,6 @@ use Prim.Native.Nat.{ℕ}
 use mathlib.Core.Path.{◌≡◌, sym, ◌∙◌, ap}
 use mathlib.Core.List.{List}
 use native.Mathlib.Nat.{le_trans}
-use borrow.Author.Rules.{rules}
 use lib.ListN.{length}
 use Rattle.laws.specs.Lists.{same}
 use Rattle.laws.proofs.Parts.{lent, known}
@@ -28,7 +27,7 @@ again c =
 
 pub returns-in_default : goal.returns-in_default
 returns-in_default c =
-    absurd (other_arm c.item.result (noted_rule c.args.text.now c.args.key c.item.ensures.0 c.requires) c.in_default.in_default-own.keys2)
+    absurd (other_arm c.item.result (noted_rule c.args.text.now c.args.key c.item.ensures.0 c.requires) c.in_default.not-Rule)
 
 pub bytes_in-requires : goal.bytes_in-requires
 bytes_in-requires c =

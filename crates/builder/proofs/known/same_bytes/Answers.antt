@@ -1,9 +1,8 @@
 -- `known::same_bytes` meets its contract. The loop keeps: what is left is the same exactly if all is. Assumes nothing.
-use Prim.Native.Nat.{◌-◌, ◌<◌, ◌≤◌}
-use mathlib.Core.Path.{◌≡◌, refl, sym, ◌∙◌}
+use Prim.Native.Nat.{◌<◌, ◌≤◌}
+use mathlib.Core.Path.{refl, sym, ◌∙◌}
 use native.Mathlib.Omega.{arith}
-use lib.ListN.{length, drop}
-use Rattle.laws.specs.Lists.{same}
+use lib.ListN.{length}
 use Rattle.laws.proofs.Same.{lengths_differ, same_here, differ_here, same_end}
 use Rattle.builder.proofs.known.same_bytes.Goals as goal
 

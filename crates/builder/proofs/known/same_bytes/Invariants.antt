@@ -1,10 +1,8 @@
 -- `known::same_bytes` meets its contract. The loop keeps: what is left is the same exactly if all is. Assumes nothing.
-use Prim.Native.Nat.{◌-◌, ◌<◌, ◌≤◌}
-use mathlib.Core.Path.{◌≡◌, refl, sym, ◌∙◌}
-use native.Mathlib.Omega.{arith}
+use Prim.Native.Nat.{◌-◌, ◌≤◌}
+use mathlib.Core.Path.{◌≡◌}
 use lib.ListN.{length, drop}
 use Rattle.laws.specs.Lists.{same}
-use Rattle.laws.proofs.Same.{lengths_differ, same_here, differ_here, same_end}
 use Rattle.builder.proofs.known.same_bytes.Given as goal
 
 abbrev pub invariant-loop-i : goal.invariant-loop-i

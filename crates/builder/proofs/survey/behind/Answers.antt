@@ -1,6 +1,5 @@
 -- `survey::behind` meets its contract, by its two arms. Assumes nothing.
 use mathlib.Core.Path.{sym, ap}
-use borrow.Author.Rules.{rules}
 use Rattle.book.specs.declared.Noted.{Noted}
 use Rattle.builder.specs.Survey.{turn_of}
 use Rattle.builder.proofs.survey.behind.Goals as goal

@@ -3,7 +3,6 @@ use mathlib.Core.Path.{sym, subst}
 use mathlib.Core.List.{List}
 use Prim.Native.Nat.{ℕ}
 use native.Mathlib.Omega.{arith}
-use borrow.Author.Rules.{rules}
 use lib.ListN.{length}
 use Rattle.laws.proofs.Parts.{lent, known}
 use Rattle.rule_text.specs.Answers.{Lies, FourIn, FoldingIn}
@@ -82,9 +81,9 @@ pub returns-in-Rule : goal.returns-in-Rule
 returns-in-Rule c =
     let a = c.args in
     let n = c.note_four in
-    subst (TurnIs a.text.now a.at a.tally a.keys.now a.foldings.now n.last.1.0 n.last.1.1.0 a.foldings.now) (sym c.behind.ensures)
+    subst (TurnIs a.text.now a.at a.tally a.keys.now a.foldings.now n.new.keys n.new.seen a.foldings.now) (sym c.behind.ensures)
     (rule-turn a.text.now a.at a.tally a.keys.now a.seen.now a.foldings.now c.requires.0 c.requires.1 (four c.before.before.before.before.before.before.before.before.before.before) c.item.ensures c.in-Rule.is
-    n.last.1.0 n.last.1.1.0 n.result n.ensures)
+    n.new.keys n.new.seen n.result n.ensures)
 
 pub returns-in-Folding : goal.returns-in-Folding
 returns-in-Folding c =

@@ -1,7 +1,6 @@
 -- `survey::note_four` meets its contract: the rule of the four parts, as they are lent (Again.lent-rule), left out where its pattern is known. Assumes nothing.
 use mathlib.Core.Path.{◌≡◌, subst}
 use native.Mathlib.Omega.{arith}
-use borrow.Author.Rules.{rules}
 use lib.ListN.{length, take}
 use Rattle.laws.specs.Lists.{some}
 use Rattle.rule_text.specs.Fields.{bar}
@@ -61,7 +60,7 @@ pub returns : goal.returns
 returns c =
     let a = c.args in
     let n = c.note_rule in
-    subst (λ (q : Rule). FourNoted a.text.now q a.at a.tally a.keys.now a.seen.now n.new.keys n.new.seen.0 n.result) (lent c.before.before.before.before.before.before.before.before.before.before.before)
+    subst (λ (q : Rule). FourNoted a.text.now q a.at a.tally a.keys.now a.seen.now n.new.keys n.new.seen n.result) (lent c.before.before.before.before.before.before.before.before.before.before.before)
     (as_new (rule c.before.before.before.before.before.before.before.before.before.before.before) a.at a.tally a.keys.now a.seen.now n.result
     (some (of_pattern (rule c.before.before.before.before.before.before.before.before.before.before.before).pattern) (rules_in (view a.text.now) (take a.tally.rules a.keys.now))) c.is_known.result
-    c.is_known.ensures n.new.0 n.new.1.0 c.if-is_known.false n.ensures)
+    c.is_known.ensures n.new.keys n.new.seen c.if-is_known.false n.ensures)

@@ -1,13 +1,8 @@
 -- `survey::survey` meets its contract. The loop keeps: the verdict on the items from here on, behind what is noted, is the verdict on all. Assumes nothing.
-use Prim.Native.Nat.{◌-◌}
 use mathlib.Core.Path.{◌≡◌, refl, sym, ◌∙◌, subst}
 use native.Mathlib.Omega.{arith}
-use borrow.Author.Rules.{rules}
-use lib.ListN.{length}
-use Rattle.rule_text.specs.Items.{items}
-use Rattle.book.specs.Book.{blank}
-use Rattle.builder.specs.Build.{Verdict, verdict}
-use Rattle.builder.specs.Survey.{SoFar, onward, TurnIs, SurveyIs}
+use Rattle.builder.specs.Build.{Verdict}
+use Rattle.builder.specs.Survey.{TurnIs, SurveyIs}
 use Rattle.builder.specs.declared.survey.Turn.{Turn}
 use Rattle.builder.specs.declared.survey.Surveyed.TheVariants as Surveyed
 use Rattle.builder.proofs.Turns.{survey_start, survey_end}
@@ -23,11 +18,11 @@ After-slice_known6 = places.After-slice_known6 tie.the-claims reads.Pre reads.Po
 turned : (c : After-slice_known6) (t : Turn) → c.enter.result ≡ t
     → let l = c.loop-at in
     let e = c.enter in
-    TurnIs c.args.text.now l.at l.tally l.keys l.foldings e.last.1.0 e.last.1.1.0 e.last.1.1.1.0 t
+    TurnIs c.args.text.now l.at l.tally l.keys l.foldings e.new.keys e.new.seen e.new.foldings t
 turned c t is =
     let l = c.loop-at in
     let e = c.enter in
-    subst (TurnIs c.args.text.now l.at l.tally l.keys l.foldings e.last.1.0 e.last.1.1.0 e.last.1.1.1.0) is e.ensures
+    subst (TurnIs c.args.text.now l.at l.tally l.keys l.foldings e.new.keys e.new.seen e.new.foldings) is e.ensures
 
 pub loop-at-init : goal.loop-at-init
 loop-at-init c =

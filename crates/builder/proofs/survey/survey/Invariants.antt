@@ -1,16 +1,11 @@
 -- `survey::survey` meets its contract. The loop keeps: the verdict on the items from here on, behind what is noted, is the verdict on all. Assumes nothing.
 use Prim.Native.Nat.{◌-◌}
-use mathlib.Core.Path.{◌≡◌, refl, sym, ◌∙◌, subst}
-use native.Mathlib.Omega.{arith}
-use borrow.Author.Rules.{rules}
+use mathlib.Core.Path.{◌≡◌}
 use lib.ListN.{length}
 use Rattle.rule_text.specs.Items.{items}
 use Rattle.book.specs.Book.{blank}
-use Rattle.builder.specs.Build.{Verdict, verdict}
-use Rattle.builder.specs.Survey.{SoFar, onward, TurnIs, SurveyIs}
-use Rattle.builder.specs.declared.survey.Turn.{Turn}
-use Rattle.builder.specs.declared.survey.Surveyed.TheVariants as Surveyed
-use Rattle.builder.proofs.Turns.{survey_start, survey_end}
+use Rattle.builder.specs.Build.{verdict}
+use Rattle.builder.specs.Survey.{SoFar, onward}
 use Rattle.builder.proofs.survey.survey.Given as goal
 
 abbrev pub invariant-loop-at : goal.invariant-loop-at

@@ -1,6 +1,5 @@
 -- `write::put_four` meets its contract: the rule of the four parts, as they are lent (Again.lent-rule). Assumes nothing.
 use mathlib.Core.Path.{◌≡◌, sym, ap, subst}
-use borrow.Author.Rules.{rules}
 use Rattle.plate.specs.Plate.{Rule}
 use Rattle.plate.specs.Written.{rule_bits}
 use Rattle.book.specs.Book.{rule_fault}

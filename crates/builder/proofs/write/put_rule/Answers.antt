@@ -1,6 +1,5 @@
 -- `write::put_rule` meets its contract. At the place of a key stands the rule that was noted there (Again.viewed-again). Assumes nothing.
 use mathlib.Core.Path.{◌≡◌, sym, ap}
-use borrow.Author.Rules.{rules}
 use lib.ListN.{length}
 use Rattle.laws.proofs.Parts.{lent, known}
 use Rattle.rule_text.specs.Answers.{Lies}
@@ -25,12 +24,11 @@ same c =
 
 pub returns-in_default : goal.returns-in_default
 returns-in_default c =
-    absurd (other_arm c.item.result (noted_rule c.args.text.now c.args.key c.item.ensures.0 c.requires.0) c.in_default.in_default-own.keys2)
+    absurd (other_arm c.item.result (noted_rule c.args.text.now c.args.key c.item.ensures.0 c.requires.0) c.in_default.not-Rule)
 
 pub put_four-requires : goal.put_four-requires
 put_four-requires c =
-    let a = c.args in
-    (
+    let a = c.args in (
       (known (Lies (length (lent (place_in a.key) a.text.now))) c.item.ensures c.in-Rule.is).1,
       fine-again a.text.now a.key c.item.ensures.0 c.requires.0 c.in-Rule.four c.in-Rule.is,
       ready_as (ap rule_bits (same c.before.before)) c.requires.1,

@@ -1,27 +1,17 @@
 -- `write::put_rules` meets its contract. The loop keeps: the rules of the first k keys are written (Inks.first-turn). Assumes nothing.
-use Prim.Native.Nat.{ℕ, ◌-◌, ◌<◌, ◌≤◌}
+use Prim.Native.Nat.{◌<◌, ◌≤◌}
 use mathlib.Core.Path.{sym, subst}
-use mathlib.Core.List.{List}
 use native.Mathlib.Omega.{arith}
 use lib.ListN.{length, take}
 use lib.Seq.{length-take-le, get_or-take}
-use Rattle.laws.specs.Lists.{cat}
-use Rattle.plate.specs.Plate.{Rule}
 use Rattle.plate.specs.Written.{rule_bits}
-use Rattle.book.specs.Pen.{Wrote}
-use Rattle.book.specs.Note.{place_in, Sure}
+use Rattle.book.specs.Note.{Sure}
 use Rattle.book.proofs.Keys.{sure_at}
 use Rattle.book.proofs.Inks.{wrote_none, wrote_as, ready_as, first_ready, first_turn, each_end}
 use Rattle.book.proofs.Scripts.{cat_map}
 use Rattle.builder.specs.Survey.{view}
+use Rattle.builder.proofs.write.put_rules.Invariants.{rule, bits}
 use Rattle.builder.proofs.write.put_rules.Goals as goal
-
--- the rule of a key, and its bits
-abbrev rule : List ℕ → ℕ → Rule
-rule text key = view text (place_in key)
-
-abbrev bits : List ℕ → ℕ → List ℕ
-bits text key = rule_bits (rule text key)
 
 pub loop-k-init : goal.loop-k-init
 loop-k-init c =

@@ -1,6 +1,5 @@
 -- `write::write_plate` meets its contract: head, foldings and rules, one behind the other, and the last byte filled (Scripts.wrote-plate). Assumes nothing.
 use native.Mathlib.Omega.{arith}
-use borrow.Author.Rules.{rules}
 use Rattle.book.proofs.Scripts.{ready_head, ready-pairs, ready-keys, ready-end, wrote-plate}
 use Rattle.builder.specs.Survey.{view}
 use Rattle.builder.proofs.write.write_plate.Goals as goal

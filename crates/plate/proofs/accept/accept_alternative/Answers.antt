@@ -1,5 +1,5 @@
 -- `plate::accept::accept_alternative` meets its contract: a window holds all 27 bits that an alternative may have. Assumes nothing.
-use Rattle.std.proofs.Common.{arith, rules}
+use Rattle.std.proofs.Common.{arith}
 use Rattle.plate.proofs.Windows.{front}
 use Rattle.plate.proofs.accept.accept_alternative.Goals as goal
 

@@ -1,8 +1,7 @@
 -- `plate::accept::accept_field` meets its contract: a single alternative stands behind the count in the same window; of others those left are good and end
 -- where all do, each turn takes the first one off, and no more than 27 bits pass. Assumes nothing.
-use Rattle.std.proofs.Common.{◌≡◌, ℕ, ◌+◌, ◌*◌, ◌≤◌, sym, refl, ap, ◌∙◌, add-zero, arith, rules}
+use Rattle.std.proofs.Common.{◌≡◌, ℕ, ◌+◌, sym, refl, ap, ◌∙◌, add-zero, arith}
 use Rattle.plate.specs.Most.{field_most, alternative_most}
-use Rattle.plate.specs.Answers.{alternatives_step}
 use Rattle.plate.proofs.Accepted.{alternatives_turn, alternatives_stop, alternatives_end, field_none, field_over, field_is, field_one, up_further}
 use Rattle.plate.specs.Bits.{number_at}
 use Rattle.plate.proofs.Windows.{front, shifted}

@@ -1,5 +1,5 @@
 -- `plate::accept::accept_fields` meets its contract: each field begins where the one before ends (Accepted.three-1 to three-4). Assumes nothing.
-use Rattle.std.proofs.Common.{arith, rules}
+use Rattle.std.proofs.Common.{arith}
 use Rattle.plate.specs.Plate.{good_field}
 use Rattle.plate.specs.Read.{field_at, field_end}
 use Rattle.plate.proofs.Accepted.{three_1, three_2, three-3, three-4}
@@ -17,8 +17,7 @@ accept_field-requires-2 c = let w = rw c.in-To.is at c.accept_field.ensures.1 in
 pub returns-in_default-accept_field : goal.returns-in_default-accept_field
 returns-in_default-accept_field c =
     let a = c.args in
-    let s = a.plate.now in
-    (
+    let s = a.plate.now in (
       three_2 (λ p. good_field (field_at s p)) (field_end s) a.at c.accept_field.result c.accept_field.ensures.0 c.in-To.vowel c.in-To.is
           c.accept_field-2.result c.accept_field-2.ensures.0 c.in_default-accept_field.is,
       omega arith,
@@ -33,8 +32,7 @@ accept_field-requires-3 c =
 pub returns-in_default-accept_field-2 : goal.returns-in_default-accept_field-2
 returns-in_default-accept_field-2 c =
     let a = c.args in
-    let s = a.plate.now in
-    (
+    let s = a.plate.now in (
       three-3 (λ p. good_field (field_at s p)) (field_end s) a.at c.accept_field.result c.accept_field.ensures.0 c.in-To.vowel c.in-To.is
           c.accept_field-2.result c.accept_field-2.ensures.0 c.in-To-accept_field.other c.in-To-accept_field.is c.accept_field-3.result
           c.accept_field-3.ensures.0 c.in_default-accept_field-2.is,

@@ -1,5 +1,4 @@
 -- `plate::accept::accept_folding` meets its contract: key, target and order are tested in turn, as in the definition. Assumes nothing.
-use Rattle.std.proofs.Common.{rules}
 use Rattle.plate.proofs.Accepted.{folding_key, folding-target, folding-is}
 use Rattle.plate.proofs.accept.accept_folding.Goals as goal
 

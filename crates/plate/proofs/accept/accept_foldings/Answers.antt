@@ -1,5 +1,4 @@
 -- `plate::accept::accept_foldings` meets its contract: plain ones are good, and of any others the long way tells. Assumes nothing.
-use Rattle.std.proofs.Common.{rules}
 use Rattle.plate.proofs.accept.accept_foldings.Goals as goal
 
 pub returns-then-plain_foldings : goal.returns-then-plain_foldings

@@ -1,5 +1,5 @@
 -- `plate::accept::accept_noting` meets its contract: the first byte tells the edition (Facts.tells-2, tells-1), and accept_in answers for it. Assumes nothing.
-use Rattle.std.proofs.Common.{◌≤◌, length, subst, arith, rules}
+use Rattle.std.proofs.Common.{◌≤◌, length, subst, arith}
 use Rattle.plate.specs.Plate.{Edition, edition1, edition2}
 use Rattle.plate.proofs.Facts.{tells_1, tells_2}
 use Rattle.plate.proofs.Noting.{told_in}

@@ -1,6 +1,6 @@
 -- `plate::accept::accept_pattern` meets its contract: the count is 1 to 16 or refused, the first character gives the code, and the bytes behind it
 -- are good text exactly if all are. Assumes nothing.
-use Rattle.std.proofs.Common.{◌≡◌, Bool, true, false, arith, rules}
+use Rattle.std.proofs.Common.{◌≡◌, Bool, true, false, arith}
 use Rattle.plate.specs.Answers.{bytes_at, code_if, first_of}
 use Rattle.plate.proofs.Fronts.{first_none, first_over, first_bad, first_decided}
 use Rattle.plate.proofs.accept.accept_pattern.Tie as tie

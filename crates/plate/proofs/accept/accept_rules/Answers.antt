@@ -1,6 +1,6 @@
 -- `plate::accept::accept_rules` meets its contract: the rules left are good and in order exactly if all are, and those passed are noted (Noting.Going).
 -- Assumes nothing.
-use Rattle.std.proofs.Common.{◌≡◌, ℕ, ◌+◌, ◌-◌, ◌*◌, ◌<◌, ◌≤◌, true, false, ◌⊎◌, List, length, set, sym, refl, ap, ◌∙◌, subst, inl, inr, arith, length-set, rules, le-ltb, lt-ltb, le-leb}
+use Rattle.std.proofs.Common.{◌≡◌, ℕ, ◌+◌, ◌-◌, ◌*◌, ◌<◌, ◌≤◌, true, false, ◌⊎◌, List, length, set, sym, refl, ap, ◌∙◌, subst, inl, inr, arith, length-set, le-ltb, lt-ltb, le-leb}
 use native.Mathlib.Nat.{sub-zero}
 use borrow.Author.Tests.{lt-leb}
 use lib.ListN.{length-replicate}

@@ -1,17 +1,10 @@
 -- `plate::accept::accept_rules` meets its contract: the rules left are good and in order exactly if all are, and those passed are noted (Noting.Going).
 -- Assumes nothing.
-use Rattle.std.proofs.Common.{◌≡◌, ℕ, ◌+◌, ◌-◌, ◌*◌, ◌<◌, ◌≤◌, true, false, ◌⊎◌, List, length, set, sym, refl, ap, ◌∙◌, subst, inl, inr, arith, length-set, rules, le-ltb, lt-ltb, le-leb}
-use native.Mathlib.Nat.{sub-zero}
-use borrow.Author.Tests.{lt-leb}
-use lib.ListN.{length-replicate}
-use Rattle.plate.specs.Answers.{SeenTo, in_order, rules_step}
+use Rattle.std.proofs.Common.{◌≡◌, ℕ, ◌+◌, ◌-◌, ◌*◌, ◌≤◌, List, length, set}
+use Rattle.plate.specs.Answers.{rules_step}
 use Rattle.plate.specs.Most.{rule_most}
-use Rattle.plate.specs.declared.Seen.{Seen}
-use Rattle.plate.specs.declared.Seen.TheVariants.{Good, Wrong}
-use Rattle.plate.specs.declared.Step.TheVariants.{Nowhere}
-use Rattle.plate.specs.Noted.{half, noted_characters, NotedFrom}
-use Rattle.plate.proofs.Accepted.{made_wrong, order_wrong, order_good, order_same, order_apart, rules_stop, rules_turn, rules_end}
-use Rattle.plate.proofs.Noting.{Going, going_start, going_turn, set_set}
+use Rattle.plate.specs.Noted.{half, noted_characters}
+use Rattle.plate.proofs.Noting.{Going}
 use Rattle.plate.proofs.accept.accept_rules.Given as goal
 
 -- What the loop keeps beside its bounds: the rules left decide as all do, and those passed are noted, once the present group is.

@@ -1,8 +1,7 @@
 -- `plate::accept::any_foldings` meets its contract: the foldings left, behind the key before, are good and rising exactly if all are; each turn
 -- takes the first one off. Assumes nothing.
-use Rattle.std.proofs.Common.{◌≡◌, ◌+◌, ◌*◌, true, false, sym, refl, ◌∙◌, arith}
+use Rattle.std.proofs.Common.{◌≡◌, ◌+◌, ◌*◌}
 use Rattle.plate.specs.Answers.{foldings_good}
-use Rattle.plate.proofs.Accepted.{foldings_turn, foldings_stop, foldings_end, no_key, some_key}
 use Rattle.plate.proofs.accept.any_foldings.Given as goal
 
 abbrev pub invariant-loop-left : goal.invariant-loop-left

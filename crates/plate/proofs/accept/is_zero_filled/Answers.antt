@@ -1,5 +1,4 @@
 -- `plate::accept::is_zero_filled` meets its contract: both tests of `zeroFilled` are made in its order. Assumes nothing.
-use Rattle.std.proofs.Common.{rules}
 use Rattle.plate.proofs.Accepted.{filled_is, filled_not}
 use Rattle.plate.proofs.accept.is_zero_filled.Goals as goal
 

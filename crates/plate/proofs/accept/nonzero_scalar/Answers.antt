@@ -1,5 +1,5 @@
 -- `plate::accept::nonzero_scalar` meets its contract: it is the definition's two tests in its order. Assumes nothing.
-use Rattle.std.proofs.Common.{ltb, sym, ◌∙◌, rules, le-ltb, lt-ltb}
+use Rattle.std.proofs.Common.{ltb, sym, ◌∙◌, le-ltb, lt-ltb}
 use Rattle.laws.proofs.Tests.{and_left_false}
 use Rattle.laws.proofs.Many.{and_holds}
 use Rattle.chars.specs.Utf8.{scalar}

@@ -1,9 +1,7 @@
 -- `plate::accept::plain_foldings` meets its contract: if the last key and all targets together are low, the foldings left are good and rising exactly if
 -- all are (Rising.Passed); each turn takes the first one off, a plain one. Assumes nothing.
-use Rattle.std.proofs.Common.{◌≡◌, ℕ, ◌+◌, ◌*◌, ◌/◌, ◌≤◌, true, sym, refl, ◌∙◌, subst, arith, leb-true}
-use mathlib.Core.Bool.{false≢true}
-use Rattle.plate.proofs.Accepted.{foldings_end}
-use Rattle.plate.proofs.Rising.{Passed, passed_turn}
+use Rattle.std.proofs.Common.{◌≡◌, ◌+◌, ◌*◌}
+use Rattle.plate.proofs.Rising.{Passed}
 use Rattle.plate.proofs.accept.plain_foldings.Given as goal
 
 abbrev pub invariant-loop-left : goal.invariant-loop-left

@@ -1,6 +1,6 @@
 -- `plate::bits::bits` meets its contract: the bits lie within the four bytes from the place's byte on, and shift and remainder cut them out
 -- (Windows.cut). Assumes nothing.
-use Rattle.std.proofs.Common.{ℕ, ◌^◌, ◌<◌, sym, subst, arith, rules}
+use Rattle.std.proofs.Common.{ℕ, ◌^◌, ◌<◌, sym, subst, arith}
 use Rattle.plate.proofs.Place.{number_lt}
 use Rattle.plate.proofs.Windows.{cut, shl_one, shl_pos, cut_small}
 use Rattle.plate.proofs.bits.bits.Goals as goal

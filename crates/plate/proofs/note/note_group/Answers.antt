@@ -1,5 +1,5 @@
 -- `plate::note::note_group` meets its contract: past the end of an array `set` changes nothing. Assumes nothing.
-use Rattle.std.proofs.Common.{◌+◌, ◌*◌, sym, arith, rules}
+use Rattle.std.proofs.Common.{◌+◌, ◌*◌, sym, arith}
 use lib.Seq.{set_out}
 use Rattle.plate.specs.Noted.{half}
 use Rattle.plate.proofs.note.note_group.Goals as goal

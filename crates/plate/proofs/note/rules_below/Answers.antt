@@ -1,5 +1,5 @@
 -- `plate::note::rules_below` meets its contract by halves (Halves.Halving): the rule in the middle tells of all before it, or of all behind it. Assumes nothing.
-use Rattle.std.proofs.Common.{◌≡◌, ℕ, ◌+◌, ◌-◌, ◌/◌, ◌<◌, ◌≤◌, length, get_or, sym, ap, ◌∙◌, arith, rules}
+use Rattle.std.proofs.Common.{◌≡◌, ℕ, ◌+◌, ◌-◌, ◌/◌, ◌<◌, ◌≤◌, length, get_or, sym, ap, ◌∙◌, arith}
 use Rattle.plate.specs.Plate.{first_code}
 use Rattle.plate.specs.Most.{most_rules}
 use Rattle.plate.specs.Read.{rule_at, plate_in}
@@ -8,7 +8,7 @@ use Rattle.plate.specs.declared.Letter.{Letter}
 use Rattle.plate.proofs.Facts.{rules_counted, rules_few, rules_ordered}
 use Rattle.plate.proofs.Parts.{pattern_some, mark_start}
 use Rattle.plate.proofs.Noting.{placed_room, placed_here, placed_rule}
-use Rattle.plate.proofs.Halves.{Halving, halving_start, halving_end, halving_up, halving_down}
+use Rattle.plate.proofs.Halves.{halving_start, halving_end, halving_up, halving_down}
 use Rattle.plate.proofs.note.rules_below.Tie as tie
 use Rattle.plate.proofs.note.rules_below.Lts as places
 use Rattle.plate.proofs.note.rules_below.Reads as reads

@@ -1,6 +1,5 @@
 -- `plate::pattern::byte_at` meets its contract: byte k of the pattern stands 8 k bits behind the first, and past the last `get_or` answers 0. Assumes
 -- nothing.
-use Rattle.std.proofs.Common.{rules}
 use Rattle.plate.proofs.Fronts.{byte_here, byte_behind}
 use Rattle.plate.proofs.pattern.byte_at.Goals as goal
 

@@ -1,6 +1,6 @@
 -- `plate::pattern::front` meets its contract: an ASCII byte is its own character, and any other is decoded by `wide_front`; what is found lies
 -- within the bytes (Fronts.front-within). Assumes nothing.
-use Rattle.std.proofs.Common.{◌<◌, arith, rules}
+use Rattle.std.proofs.Common.{◌<◌, arith}
 use Rattle.plate.proofs.Fronts.{front_within, ascii_zero, ascii_is}
 use Rattle.plate.proofs.pattern.front.Goals as goal
 

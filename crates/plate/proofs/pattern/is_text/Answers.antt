@@ -1,7 +1,6 @@
 -- `plate::pattern::is_text` meets its contract: the bytes left are good text exactly if all are; five ASCII bytes pass at once, a character passes
 -- (Fronts.text-turn), anything else decides (text-stop), and no bytes are good (text-end). Assumes nothing.
-use Rattle.std.proofs.Common.{◌≡◌, ◌+◌, ◌*◌, sym, refl, ◌∙◌, arith, rules}
-use Rattle.plate.specs.Answers.{good_text, bytes_at}
+use Rattle.std.proofs.Common.{sym, refl, ◌∙◌, arith}
 use Rattle.plate.proofs.Fronts.{text_stop, text_turn, text_end}
 use Rattle.plate.proofs.pattern.is_text.Goals as goal
 

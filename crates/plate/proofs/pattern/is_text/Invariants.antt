@@ -1,8 +1,7 @@
 -- `plate::pattern::is_text` meets its contract: the bytes left are good text exactly if all are; five ASCII bytes pass at once, a character passes
 -- (Fronts.text-turn), anything else decides (text-stop), and no bytes are good (text-end). Assumes nothing.
-use Rattle.std.proofs.Common.{◌≡◌, ◌+◌, ◌*◌, sym, refl, ◌∙◌, arith, rules}
+use Rattle.std.proofs.Common.{◌≡◌, ◌+◌, ◌*◌}
 use Rattle.plate.specs.Answers.{good_text, bytes_at}
-use Rattle.plate.proofs.Fronts.{text_stop, text_turn, text_end}
 use Rattle.plate.proofs.pattern.is_text.Given as goal
 
 abbrev pub invariant-loop-left : goal.invariant-loop-left

@@ -1,6 +1,6 @@
 -- `plate::pattern::wide_front` meets its contract: four bytes decide the character in front, with zeros behind the end (Fronts.from-four). Assumes
 -- nothing.
-use Rattle.std.proofs.Common.{◌≡◌, ◌<◌, rules}
+use Rattle.std.proofs.Common.{◌≡◌, ◌<◌}
 use Rattle.chars.specs.Utf8.{char_of}
 use Rattle.plate.specs.Answers.{bytes_at}
 use Rattle.plate.proofs.Fronts.{from_four, decoded-zero, decoded_is, decoded-bad, decoded-end}

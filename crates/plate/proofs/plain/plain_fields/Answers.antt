@@ -1,5 +1,5 @@
 -- `plate::plain::plain_fields` meets its contract: quick fields, or short ones. Assumes nothing.
-use Rattle.std.proofs.Common.{arith, rules}
+use Rattle.std.proofs.Common.{arith}
 use Rattle.plate.proofs.Windows.{front}
 use Rattle.plate.proofs.plain.plain_fields.Goals as goal
 

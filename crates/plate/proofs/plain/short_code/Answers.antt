@@ -1,6 +1,6 @@
 -- `plate::plain::short_code` meets its contract: in front stands a character of two bytes, and text behind it, or an ASCII byte (Shapes.double-first,
 -- Shapes.ascii-first). Assumes nothing.
-use Rattle.std.proofs.Common.{◌*◌, ◌≤◌, refl, ◌∙◌, arith, rules}
+use Rattle.std.proofs.Common.{◌*◌, ◌≤◌, refl, ◌∙◌, arith}
 use Rattle.plate.proofs.Windows.{front}
 use Rattle.plate.proofs.Shapes.{ascii_turn, ascii_first, double_first}
 use Rattle.plate.proofs.plain.short_code.Goals as goal

@@ -1,5 +1,5 @@
 -- `plate::plain::short_field` meets its contract: one alternative behind its count (Shapes.single), or two (Shapes.left-turn, twice). Assumes nothing.
-use Rattle.std.proofs.Common.{◌≡◌, ◌+◌, ◌≤◌, sym, refl, arith, rules}
+use Rattle.std.proofs.Common.{◌+◌, ◌≤◌, sym, refl, arith}
 use Rattle.plate.proofs.Windows.{front}
 use Rattle.plate.proofs.Shapes.{single, left_all, left_turn, left_none}
 use Rattle.plate.proofs.plain.short_field.Goals as goal

@@ -1,7 +1,7 @@
 -- `plate::plain::short_text` meets its contract: the bytes left are text exactly if all are; each turn takes a character off (Shapes.rest-turn). Assumes nothing.
-use Rattle.std.proofs.Common.{◌≤◌, arith}
+use Rattle.std.proofs.Common.{arith}
 use mathlib.Core.Bool.{false≢true}
-use Rattle.plate.proofs.Shapes.{Rest, rest_all, rest_turn, rest_none}
+use Rattle.plate.proofs.Shapes.{rest_all, rest_turn, rest_none}
 use Rattle.plate.proofs.plain.short_text.Goals as goal
 
 pub loop-left-init : goal.loop-left-init

@@ -1,7 +1,6 @@
 -- `plate::plain::short_text` meets its contract: the bytes left are text exactly if all are; each turn takes a character off (Shapes.rest-turn). Assumes nothing.
-use Rattle.std.proofs.Common.{◌≤◌, arith}
-use mathlib.Core.Bool.{false≢true}
-use Rattle.plate.proofs.Shapes.{Rest, rest_all, rest_turn, rest_none}
+use Rattle.std.proofs.Common.{◌≤◌}
+use Rattle.plate.proofs.Shapes.{Rest}
 use Rattle.plate.proofs.plain.short_text.Given as goal
 
 abbrev pub invariant-loop-left : goal.invariant-loop-left

@@ -1,5 +1,5 @@
 -- `plate::plain::text_behind` meets its contract: behind two bytes of two stands nothing, and behind two of more what `short_text` tells. Assumes nothing.
-use Rattle.std.proofs.Common.{◌+◌, ◌-◌, ◌*◌, ◌≤◌, arith, rules}
+use Rattle.std.proofs.Common.{◌+◌, ◌-◌, ◌*◌, ◌≤◌, arith}
 use Rattle.plate.proofs.Fronts.{text_end}
 use Rattle.plate.proofs.Shapes.{behind_held}
 use Rattle.plate.proofs.plain.text_behind.Goals as goal

@@ -1,10 +1,9 @@
 -- `plate::read::alternative_at` meets its contract: the digits stored are the first k, and the fill stands behind them; each turn stores one more
 -- (Parts.digits-store). Assumes nothing.
-use Rattle.std.proofs.Common.{◌≡◌, ◌+◌, ◌-◌, ◌<◌, ◌≤◌, ◌++◌, replicate, refl, arith}
+use Rattle.std.proofs.Common.{◌≡◌, ◌+◌, ◌-◌, ◌≤◌, ◌++◌, replicate}
 use Rattle.plate.specs.Plate.{most_digits}
 use Rattle.plate.specs.Bits.{number_at}
 use Rattle.plate.specs.Read.{many}
-use Rattle.plate.proofs.Parts.{count_six, digits_store, alternative_held}
 use Rattle.plate.proofs.read.alternative_at.Given as goal
 
 abbrev pub invariant-loop-k : goal.invariant-loop-k

@@ -1,12 +1,10 @@
 -- `plate::read::field_at` meets its contract: the alternatives stored are the first k, and empty ones stand behind them; each turn stores one more
 -- (Parts.alternatives-store). Assumes nothing.
-use Rattle.std.proofs.Common.{◌≡◌, ℕ, ◌+◌, ◌-◌, ◌*◌, ◌<◌, ◌≤◌, List, [], ◌++◌, map, replicate, refl, arith, rules}
+use Rattle.std.proofs.Common.{◌≡◌, ℕ, ◌+◌, ◌-◌, ◌*◌, ◌≤◌, List, [], ◌++◌, map, replicate}
 use Rattle.plate.specs.Plate.{most_alternatives}
-use Rattle.plate.specs.Most.{farthest}
 use Rattle.plate.specs.Read.{many, past, alternative_at, alternative_end}
 use Rattle.plate.specs.Stands.{held_alternative}
 use Rattle.plate.specs.declared.Alternative.{Alternative}
-use Rattle.plate.proofs.Parts.{field_eight, alternative_good, place_more, alternatives_store, field_held}
 use Rattle.plate.proofs.read.field_at.Given as goal
 
 -- What the loop keeps beside its bounds: the place behind the first k alternatives, and these as they are held.

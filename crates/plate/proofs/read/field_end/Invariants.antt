@@ -1,9 +1,7 @@
 -- `plate::read::field_end` meets its contract: the place behind the alternatives left is the place behind all; no more than 31 bits pass a turn. One alternative is passed by one read.
 -- Assumes nothing.
-use Rattle.std.proofs.Common.{◌≡◌, ℕ, ◌+◌, ◌*◌, ◌≤◌, sym, ap, ◌∙◌, arith}
+use Rattle.std.proofs.Common.{◌≡◌, ◌+◌, ◌*◌, ◌≤◌}
 use Rattle.plate.specs.Read.{past, alternative_end, field_end}
-use Rattle.plate.proofs.Listed.{past_end}
-use Rattle.plate.proofs.Parts.{field_front, field_one, field_turn}
 use Rattle.plate.proofs.read.field_end.Given as goal
 
 abbrev pub invariant-loop-left : goal.invariant-loop-left

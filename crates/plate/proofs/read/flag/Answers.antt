@@ -1,5 +1,5 @@
 -- `plate::read::flag` meets its contract: the flag stands behind the counts. Assumes nothing.
-use Rattle.std.proofs.Common.{ℕ, ◌+◌, eqb, ap, ◌∙◌, rules}
+use Rattle.std.proofs.Common.{ℕ, ◌+◌, eqb, ap, ◌∙◌}
 use Rattle.plate.specs.Bits.{number_at}
 use Rattle.plate.proofs.read.flag.Goals as goal
 

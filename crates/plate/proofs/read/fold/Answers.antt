@@ -1,9 +1,8 @@
 -- `plate::read::fold` meets its contract: what the foldings left say of the character is what all say. Keys rise, so below the first stands none
 -- (Parts.fold-below), and the key in the middle tells which half may have it (Parts.fold-first, Parts.fold-last). Assumes nothing.
-use Rattle.std.proofs.Common.{◌≡◌, ℕ, ◌+◌, ◌-◌, ◌*◌, ◌/◌, ◌<◌, ◌≤◌, true, ap, ◌∙◌, arith, rules}
+use Rattle.std.proofs.Common.{◌≡◌, ℕ, ◌+◌, ◌-◌, ◌/◌, ◌<◌, ◌≤◌, true, ap, ◌∙◌, arith}
 use Rattle.plate.specs.Bits.{number_at}
 use Rattle.plate.specs.Plate.{rising}
-use Rattle.plate.specs.Most.{foldings_most}
 use Rattle.plate.specs.Read.{many, folding_at, folding_end, fold_by, folding_count, count_width}
 use Rattle.plate.proofs.Facts.{foldings_few, keys_rise}
 use Rattle.plate.proofs.Parts.{fold_first, fold_last, fold_below, fold_hit, fold_miss, fold_end}

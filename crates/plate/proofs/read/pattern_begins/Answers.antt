@@ -1,5 +1,5 @@
 -- `plate::read::pattern_begins` meets its contract: a window, wherever the pattern stands, holds it, and its length is not 0 (`long`). Assumes nothing.
-use Rattle.std.proofs.Common.{ℕ, ◌≤◌, List, arith, rules}
+use Rattle.std.proofs.Common.{ℕ, ◌≤◌, List, arith}
 use Rattle.plate.specs.Window.{Holds}
 use Rattle.plate.specs.Stands.{Here}
 use Rattle.plate.proofs.Parts.{pattern_count}

@@ -1,6 +1,6 @@
 -- `plate::read::pattern_char` meets its contract: from a mark on the pattern is text without a zero byte, so a character stands there
 -- (Parts.letter-ascii, letter-wide, letter-none). Assumes nothing.
-use Rattle.std.proofs.Common.{◌<◌, refl, arith, rules}
+use Rattle.std.proofs.Common.{◌<◌, refl, arith}
 use Rattle.plate.specs.Plate.{most_bytes}
 use Rattle.plate.specs.Bits.{number_at}
 use Rattle.plate.proofs.Parts.{pattern_count, rest_some, letter-ascii, letter-wide, letter-none}

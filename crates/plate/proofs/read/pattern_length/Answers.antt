@@ -1,5 +1,4 @@
 -- `plate::read::pattern_length` meets its contract: the count is the pattern's length, and a good pattern has 1 to 16 bytes. Assumes nothing.
-use Rattle.std.proofs.Common.{rules}
 use Rattle.plate.proofs.Parts.{pattern_count}
 use Rattle.plate.proofs.read.pattern_length.Goals as goal
 

@@ -1,5 +1,4 @@
 -- `plate::window::window` meets its contract: the place's bits lie within the eight bytes from its byte on (Windows.window-holds). Assumes nothing.
-use Rattle.std.proofs.Common.{rules}
 use Rattle.plate.proofs.Windows.{window_holds}
 use Rattle.plate.proofs.window.window.Goals as goal
 
