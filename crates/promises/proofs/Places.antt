@@ -15,6 +15,7 @@ use Rattle.ward.proofs.Front.{front, others}
 -- ---- members and places
 
 pub in_place : {A : Type 0} (x d : A) (l : List A) → In x l → (k : ℕ) × (k < length l) × (get_or l k d ≡ x)
+in_place {A = A} x d [] h = elim h [ ]
 in_place x d (y ∷ l) (inl e) = (0, omega arith, sym e)
 in_place x d (y ∷ l) (inr h) = let r = in_place x d l h in let b = r.1 in (suc r.0, omega arith, r.2)
 

@@ -257,6 +257,7 @@ knows_keys before b h =
 -- ---- membership and its test
 
 pub in_some : (k : ℕ) (l : List ℕ) → In k l → some (eqb k) l ≡ true
+in_some k [] h = elim h [ ]
 in_some k (x ∷ l) (inl e) = or_left (eqb k x) (some (eqb k) l) (eq-eqb k x e)
 in_some k (x ∷ l) (inr h) = or_right (eqb k x) (some (eqb k) l) (in_some k l h)
 
