@@ -1,12 +1,12 @@
 -- What list and encode answer, by the plate, the name and the branches: the tests of the definition in their order, and encode as list over first
 -- alternatives. Assumes nothing.
-use Prim.Native.Nat.{ℕ, ◌+◌, ◌-◌, ◌/◌, ◌≤◌}
+use Prim.Native.Nat.{ℕ, ◌+◌, ◌/◌, ◌≤◌}
 use mathlib.Core.Path.{◌≡◌, refl, sym, ap, subst, ◌∙◌}
 use mathlib.Core.Bool.{Bool, true, false, cond, false≢true}
 use mathlib.Core.Option.{Option, none, some}
 use mathlib.Core.List.{List, [], map}
 use lib.Dec.{ltb}
-use lib.ListN.{length, length-map}
+use lib.ListN.{length}
 use Rattle.laws.specs.Lists.{every, same}
 use Rattle.laws.specs.Once.{once}
 use Rattle.chars.specs.Utf8.{is_text, chars_of, bad_place, fail_place}

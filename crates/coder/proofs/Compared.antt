@@ -4,9 +4,9 @@ use Prim.Native.Nat.{ℕ, zero, suc, ◌+◌, ◌-◌, ◌*◌, ◌/◌, ◌^◌
 use mathlib.Core.Path.{◌≡◌, refl, sym, ap, ap₂, subst, ◌∙◌}
 use mathlib.Core.Bool.{Bool, true, false, cond, ◌&&◌, false≢true}
 use mathlib.Core.List.{List, [], ◌∷◌, ◌++◌}
-use native.Mathlib.Nat.{add-zero, add-suc, div-one, pow-suc}
+use native.Mathlib.Nat.{add-zero, add-suc, div-one}
 use native.Mathlib.Omega.{arith}
-use borrow.Author.Tests.{eq-eqb, le-leb, eqb-true, ltb-true, ltb-false}
+use borrow.Author.Tests.{eq-eqb, le-leb, eqb-true, ltb-false}
 use lib.Dec.{eqb, ltb}
 use lib.Pow.{pow-add, shl-shr, shr-shr}
 use lib.ListN.{length, drop, get_or, length-append}

@@ -15,7 +15,7 @@ use Rattle.laws.proofs.Members.{in_every}
 use Rattle.chars.specs.Utf8.{is_text}
 use Rattle.rule_text.specs.Items.{Saying, Item, items}
 use Rattle.rule_text.specs.Items.Saying.{RuleItem, FoldingItem, LineEndItem, CommentItem, UnknownItem}
-use Rattle.rule_text.specs.Fields.{bar, alternatives}
+use Rattle.rule_text.specs.Fields.{alternatives}
 use Rattle.chars.specs.Digits.{is_alternative}
 use Rattle.plate.specs.Written.{plate_bytes}
 use Rattle.plate.specs.Plate.{same_pattern}

@@ -9,11 +9,10 @@ use Rattle.laws.proofs.Once.{Distinct}
 use Rattle.plate.proofs.Packed.{Bytes}
 use Rattle.branches.specs.Branches.{codes}
 use Rattle.branches.proofs.Choice.{listed_once}
-use Rattle.coder.specs.Answer.{Coded, list_answer}
+use Rattle.coder.specs.Answer.{list_answer}
 use Rattle.coder.specs.Given.{uses_in}
 use Rattle.zengilvar.specs.Numbers.{coded}
 use Rattle.zengilvar.specs.declared.DmCoded.{DmCoded}
-use Rattle.promises.specs.Demands.{code_at}
 use Rattle.promises.specs.Once.{ListsOnce}
 use Rattle.promises.proofs.Places.{place_in}
 use Rattle.promises.proofs.Gives.{list_gives}

@@ -7,9 +7,8 @@ use mathlib.Core.List.{List, map}
 use native.Mathlib.Omega.{arith}
 use borrow.Author.Tests.{eqb-true, eqb-false}
 use lib.Dec.{eqb, ltb}
-use lib.ListN.{length, take, drop}
+use lib.ListN.{length, take}
 use Rattle.laws.specs.Lists.{every}
-use Rattle.laws.proofs.Tests.{by_test}
 use Rattle.chars.specs.Utf8.{is_text, chars_of, bad_place, fail_place}
 use Rattle.chars.specs.Letters.{allowed}
 use Rattle.chars.proofs.Faults.{FailsAt, bad_stands, bad_only, fail_stands, fail_only}
@@ -22,7 +21,7 @@ use Rattle.coder.specs.Name.{most_name, prepared}
 use Rattle.coder.specs.Walk.{uses}
 use Rattle.coder.specs.Answer.{Coded, no_codes, listing, room, listed, encoded, answered, plated, list_answer, encode_answer}
 use Rattle.coder.proofs.Answers.{judged}
-use Rattle.promises.specs.When.{BadAt, Strange, StrangeAt, Placed, ListNumber, EncodeNumber}
+use Rattle.promises.specs.When.{BadAt, StrangeAt, Placed, ListNumber, EncodeNumber}
 use Rattle.promises.proofs.CodedWhen.{foreign, not_allowed, strange, not_strange, list_checks, encode_checks}
 
 -- ---- one place

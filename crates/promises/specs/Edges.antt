@@ -1,6 +1,6 @@
 -- Limits, orders and single characters of 01 that neither the starred examples nor `Pinned` pin, as one statement over a third list. Each case shuts out a wrong
 -- reading; docs/PROMISES.md says which. Assumes nothing.
-use Rattle.std.specs.Prelude.{ℕ, zero, suc, ◌+◌, true, false, List, [], ◌∷◌, ◌++◌, map, T, replicate}
+use Rattle.std.specs.Prelude.{ℕ, zero, suc, true, false, List, [], ◌∷◌, ◌++◌, map, T, replicate}
 use Prim.Native.String.{String}
 use Rattle.laws.specs.Lists.{split_at, until, count_of}
 use Rattle.chars.specs.Utf8.{text_from, chars_from, sound_from}
@@ -16,7 +16,7 @@ use Rattle.builder.specs.Build.{build_answer, verdict}
 use Rattle.branches.specs.Branches.{ends_with, extend, met, step, run, over}
 use Rattle.coder.specs.Walk.{walk}
 use Rattle.coder.specs.Answer.{joined, room, list_answer, encode_answer}
-use Rattle.promises.specs.Case.{Case, Codes, BadName, BadPlace, OneCode, NoCode, GoodText, BadText, Written, Taken, apart}
+use Rattle.promises.specs.Case.{Case, Codes, BadName, BadPlace, OneCode, NoCode, GoodText, Written, Taken, apart}
 use Rattle.promises.specs.Starred.{text_s, under, under_s}
 
 -- S, and a rule behind it with one field three times

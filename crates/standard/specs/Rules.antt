@@ -1,6 +1,5 @@
 -- The standard rules: rules/daitch-mokotoff.txt, line by line. `tests/standard --write` writes this file. Assumes nothing.
 use Rattle.std.specs.Prelude.{ℕ, List, [], ◌∷◌}
-use Prim.Native.String.{String}
 use Rattle.chars.specs.Quoted.{lines}
 
 abbrev pub text : List ℕ

@@ -1,6 +1,5 @@
 -- `builds` meets its contract: dm_build's promise gives demands 1 and 2 (proofs/Calls.antt). Assumes nothing.
 use native.Mathlib.Omega.{arith}
-use borrow.Author.Rules.{rules}
 use Rattle.promises.proofs.Calls.{bytes_of, builds}
 use Rattle.promises.proofs.builds.Goals as goal
 

@@ -1,6 +1,5 @@
 -- `encodes` meets its contract: dm_encode's promise gives demands 1 and 2 (proofs/Calls.antt). Assumes nothing.
 use native.Mathlib.Omega.{arith}
-use borrow.Author.Rules.{rules}
 use Rattle.promises.proofs.Calls.{bytes_of, encodes}
 use Rattle.promises.proofs.encodes.Goals as goal
 

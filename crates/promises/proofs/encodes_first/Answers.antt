@@ -1,6 +1,5 @@
 -- `encodes_first` meets its contract: the promises of dm_list and dm_encode give demand 3b (proofs/Calls.antt). Assumes nothing.
 use native.Mathlib.Omega.{arith}
-use borrow.Author.Rules.{rules}
 use Rattle.promises.proofs.Calls.{bytes_of, firsts}
 use Rattle.promises.proofs.encodes_first.Goals as goal
 

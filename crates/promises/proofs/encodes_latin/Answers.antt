@@ -1,5 +1,4 @@
 -- `encodes_latin` meets its contract: a name without Cyrillic gives what it gave (proofs/Latin.antt). Assumes nothing.
-use borrow.Author.Rules.{rules}
 use Rattle.promises.proofs.Latin.{encodes_latin}
 use Rattle.promises.proofs.encodes_latin.Goals as goal
 

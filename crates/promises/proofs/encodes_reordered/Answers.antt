@@ -1,6 +1,5 @@
 -- `encodes_reordered` meets its contract: the promises of dm_build and dm_encode, twice each, give M-113's statement (proofs/Order.antt). Assumes nothing.
 use native.Mathlib.Omega.{arith}
-use borrow.Author.Rules.{rules}
 use Rattle.promises.proofs.Calls.{bytes_of, within, part}
 use Rattle.promises.proofs.Order.{encodes_order}
 use Rattle.promises.proofs.encodes_reordered.Goals as goal

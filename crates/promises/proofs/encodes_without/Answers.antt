@@ -1,5 +1,4 @@
 -- `encodes_without` meets its contract: dm_encode's promise, by two plates, gives M-107's statement (proofs/Unused.antt). Assumes nothing.
-use borrow.Author.Rules.{rules}
 use Rattle.promises.proofs.Unused.{encodes_unused}
 use Rattle.promises.proofs.encodes_without.Goals as goal
 

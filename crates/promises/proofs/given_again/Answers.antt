@@ -1,6 +1,5 @@
 -- `given_again` meets its contract: dm_list's promise, twice, gives demand 3d (proofs/Calls.antt). Assumes nothing.
 use native.Mathlib.Omega.{arith}
-use borrow.Author.Rules.{rules}
 use Rattle.promises.proofs.Calls.{bytes_of, again}
 use Rattle.promises.proofs.given_again.Goals as goal
 

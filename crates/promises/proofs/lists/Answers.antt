@@ -1,6 +1,5 @@
 -- `lists` meets its contract: dm_list's promise gives demands 1, 2 and 3a (proofs/Calls.antt). Assumes nothing.
 use native.Mathlib.Omega.{arith}
-use borrow.Author.Rules.{rules}
 use Rattle.promises.proofs.Calls.{bytes_of, lists}
 use Rattle.promises.proofs.lists.Goals as goal
 

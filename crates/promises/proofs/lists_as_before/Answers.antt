@@ -1,5 +1,4 @@
 -- `lists_as_before` meets its contract: a plate of before reads as before (proofs/Before.antt). Assumes nothing.
-use borrow.Author.Rules.{rules}
 use Rattle.promises.proofs.Before.{lists_before}
 use Rattle.promises.proofs.lists_as_before.Goals as goal
 

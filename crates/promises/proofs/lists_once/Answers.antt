@@ -1,6 +1,5 @@
 -- `lists_once` meets its contract: dm_list's promise gives M-105's statement (proofs/Once.antt). Assumes nothing.
 use native.Mathlib.Omega.{arith}
-use borrow.Author.Rules.{rules}
 use Rattle.promises.proofs.Calls.{bytes_of}
 use Rattle.promises.proofs.Once.{lists_once}
 use Rattle.promises.proofs.lists_once.Goals as goal

@@ -1,5 +1,4 @@
 -- `lists_without` meets its contract: dm_list's promise, by two plates, gives M-107's statement (proofs/Unused.antt). Assumes nothing.
-use borrow.Author.Rules.{rules}
 use Rattle.promises.proofs.Unused.{lists_unused}
 use Rattle.promises.proofs.lists_without.Goals as goal
 

@@ -1,6 +1,5 @@
 -- `plates_keep` meets its contract: dm_list's promise, by two plates, gives demand 3c (proofs/Calls.antt). Assumes nothing.
 use native.Mathlib.Omega.{arith}
-use borrow.Author.Rules.{rules}
 use Rattle.promises.proofs.Calls.{bytes_of, keeps}
 use Rattle.promises.proofs.plates_keep.Goals as goal
 

@@ -1,6 +1,5 @@
 -- `texts_keep` meets its contract: the promises of dm_build and dm_list, twice each, give demand 3c (proofs/Calls.antt). Assumes nothing.
 use native.Mathlib.Omega.{arith}
-use borrow.Author.Rules.{rules}
 use Rattle.promises.proofs.Calls.{bytes_of, within, part, texts}
 use Rattle.promises.proofs.texts_keep.Goals as goal
 

@@ -1,7 +1,6 @@
 -- `put_line` meets its contract: a newline behind what list gives (Putting.puts-byte). Assumes nothing.
 use native.Mathlib.Omega.{arith}
 use Rattle.ward.proofs.Putting.{puts_byte}
-use borrow.Author.Rules.{rules}
 use Rattle.ward.proofs.put_line.Goals as goal
 
 pub returns : goal.returns

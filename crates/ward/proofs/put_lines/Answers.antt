@@ -1,12 +1,12 @@
 -- `put_lines` meets its contract. The loop keeps: the names before this place have their lines, and for the others there is room (Putting.Done). A turn is
 -- Putting.next-done, the end Putting.all_done. Assumes nothing.
-use Prim.Native.Nat.{ℕ, ◌+◌, ◌-◌, ◌<◌, ◌≤◌}
+use Prim.Native.Nat.{ℕ, ◌+◌, ◌<◌, ◌≤◌}
 use native.Mathlib.Omega.{arith}
 use lib.ListN.{length}
 use Rattle.laws.proofs.Parts.{lent_length}
 use Rattle.ward.specs.Ward.{line_bytes}
 use Rattle.ward.proofs.Names.{names_at, names_end, name_left}
-use Rattle.ward.proofs.Putting.{Done, none_done, next_done, all_done, done_long}
+use Rattle.ward.proofs.Putting.{none_done, next_done, all_done, done_long}
 use Rattle.ward.proofs.put_lines.Tie as tie
 use Rattle.ward.proofs.put_lines.Lts as places
 use Rattle.ward.proofs.put_lines.Reads as reads

@@ -1,6 +1,5 @@
 -- `put_list` meets its contract: what is coded is what list gives into the first 447 bytes (`answered`); codes stand (Putting.puts-codes), and for a refusal nothing
 -- was changed and its number is put (Putting.puts-refusal). Assumes nothing.
-use Prim.Native.Nat.{◌-◌}
 use mathlib.Core.Path.{◌≡◌, refl, sym, ap, ◌∙◌}
 use native.Mathlib.Omega.{arith}
 use lib.ListN.{take}
@@ -12,7 +11,6 @@ use Rattle.coder.specs.declared.Coded.TheVariants.{Codes, NotAPlate, NameTooLong
 use Rattle.coder.proofs.Answers.{by_plate, list_is}
 use Rattle.ward.specs.Ward.{list_bytes}
 use Rattle.ward.proofs.Putting.{some, few, puts_codes, unchanged, puts_refusal}
-use borrow.Author.Rules.{rules}
 use Rattle.ward.proofs.put_list.Tie as tie
 use Rattle.ward.proofs.put_list.Lts as places
 use Rattle.ward.proofs.put_list.Reads as reads

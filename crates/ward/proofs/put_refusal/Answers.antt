@@ -2,7 +2,6 @@
 use native.Mathlib.Omega.{arith}
 use lib.ListN.{length-set}
 use Rattle.ward.proofs.Putting.{puts_three}
-use borrow.Author.Rules.{rules}
 use Rattle.ward.proofs.put_refusal.Goals as goal
 
 pub bounds-out-1 : goal.bounds-out-1

@@ -2,11 +2,9 @@
 use mathlib.Core.Path.{◌≡◌, refl, sym, ◌∙◌}
 use mathlib.Core.Bool.{true}
 use native.Mathlib.Omega.{arith}
-use borrow.Author.Tests.{not-true, not-false}
 use Rattle.plate.specs.Read.{accepted}
 use Rattle.plate.proofs.Facts.{most_few}
 use Rattle.ward.proofs.Answers.{no_plate, many_names, too_small, room_for, all_written}
-use borrow.Author.Rules.{rules}
 use Rattle.ward.proofs.ward.Tie as tie
 use Rattle.ward.proofs.ward.Lts as places
 use Rattle.ward.proofs.ward.Reads as reads

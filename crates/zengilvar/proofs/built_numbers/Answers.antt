@@ -6,7 +6,6 @@ use Rattle.builder.specs.Outcome.{told}
 use Rattle.builder.specs.declared.Built.{Built}
 use Rattle.zengilvar.specs.Numbers.{built}
 use Rattle.zengilvar.specs.declared.DmBuilt.{DmBuilt}
-use borrow.Author.Rules.{rules}
 use Rattle.zengilvar.proofs.built_numbers.Goals as goal
 
 -- A refusal's numbers.

@@ -6,7 +6,6 @@ use Rattle.coder.specs.Outcome.{told}
 use Rattle.coder.specs.declared.Coded.{Coded}
 use Rattle.zengilvar.specs.Numbers.{coded}
 use Rattle.zengilvar.specs.declared.DmCoded.{DmCoded}
-use borrow.Author.Rules.{rules}
 use Rattle.zengilvar.proofs.coded_numbers.Goals as goal
 
 -- A refusal's numbers.

@@ -1,6 +1,5 @@
 -- `dm_build` meets its contract: the numbers are those of build's answer, whatever the buffer. Assumes nothing.
 use mathlib.Core.Path.{◌∙◌}
-use borrow.Author.Rules.{rules}
 use Rattle.zengilvar.proofs.dm_build.Goals as goal
 
 pub returns : goal.returns

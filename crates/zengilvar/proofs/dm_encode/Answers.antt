@@ -1,6 +1,5 @@
 -- `dm_encode` meets its contract: the numbers are those of encode's answer, whatever the buffer. Assumes nothing.
 use mathlib.Core.Path.{◌∙◌}
-use borrow.Author.Rules.{rules}
 use Rattle.zengilvar.proofs.dm_encode.Goals as goal
 
 pub returns : goal.returns

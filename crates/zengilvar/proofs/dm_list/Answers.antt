@@ -1,6 +1,5 @@
 -- `dm_list` meets its contract: the numbers are those of list's answer, whatever the buffer. Assumes nothing.
 use mathlib.Core.Path.{◌∙◌}
-use borrow.Author.Rules.{rules}
 use Rattle.zengilvar.proofs.dm_list.Goals as goal
 
 pub returns : goal.returns

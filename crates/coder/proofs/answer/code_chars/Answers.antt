@@ -2,7 +2,6 @@
 use mathlib.Core.Path.{sym, ◌∙◌}
 use mathlib.Core.List.{map}
 use native.Mathlib.Omega.{arith}
-use borrow.Author.Rules.{rules}
 use Rattle.plate.specs.Read.{plate_in}
 use lib.ListN.{length-map}
 use Rattle.branches.specs.Branches.{code}

@@ -1,8 +1,6 @@
 -- `answer::code_noting` meets its contract: bytes that are no plate are refused first, and any other answer is the plate's. Assumes nothing.
 use mathlib.Core.Path.{◌≡◌, sym, ◌∙◌}
 use mathlib.Core.Bool.{true}
-use borrow.Author.Tests.{not-true, not-false}
-use borrow.Author.Rules.{rules}
 use Rattle.plate.specs.Read.{accepted}
 use Rattle.coder.proofs.Answers.{no_plate, by_plate}
 use Rattle.coder.proofs.answer.code_noting.Tie as tie

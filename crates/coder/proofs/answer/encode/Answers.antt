@@ -1,6 +1,5 @@
 -- `answer::encode` meets its contract: with one alternative at each use only the start can lack room. Assumes nothing.
 use mathlib.Core.Path.{◌∙◌}
-use borrow.Author.Rules.{rules}
 use Rattle.coder.proofs.Answers.{encode_is}
 use Rattle.coder.proofs.answer.encode.Goals as goal
 

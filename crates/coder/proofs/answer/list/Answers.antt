@@ -1,6 +1,5 @@
 -- `answer::list` meets its contract: no field has more than 8 alternatives, so 8 of each are all. Assumes nothing.
 use mathlib.Core.Path.{◌∙◌}
-use borrow.Author.Rules.{rules}
 use Rattle.coder.proofs.Answers.{list_is}
 use Rattle.coder.proofs.answer.list.Goals as goal
 

@@ -1,7 +1,6 @@
 -- `name::coded_char` meets its contract: below the first key nothing is folded (Chars.left_as), and the plate's reader folds as the definition does. Assumes nothing.
 use mathlib.Core.Path.{sym, ap, ◌∙◌}
 use native.Mathlib.Omega.{arith}
-use borrow.Author.Rules.{rules}
 use Rattle.plate.specs.Read.{plate_in, fold_by}
 use Rattle.coder.proofs.Chars.{left_as, folded, unfolded}
 use Rattle.coder.proofs.name.coded_char.Goals as goal

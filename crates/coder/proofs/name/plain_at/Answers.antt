@@ -1,7 +1,6 @@
 -- `name::plain_at` meets its contract: only the last way out answers a character. Assumes nothing.
 use mathlib.Core.Path.{refl, sym, ◌∙◌}
 use native.Mathlib.Omega.{arith}
-use borrow.Author.Rules.{rules}
 use Rattle.coder.proofs.Chars.{plain_here}
 use Rattle.coder.proofs.name.plain_at.Goals as goal
 

@@ -1,12 +1,10 @@
 -- `name::prepare` meets its contract. The loop keeps Chars.Made: what is wanted of the bytes left is what is wanted of the name. A turn is Chars.space or
 -- Chars.kept, the ways out Chars.strange, Chars.bad and Chars.end. Each turn passes a byte at least, and a character takes no more entries than bytes.
 -- Assumes nothing.
-use Prim.Native.Nat.{ℕ, ◌+◌, ◌-◌, ◌≤◌, ◌<◌}
+use Prim.Native.Nat.{ℕ, ◌+◌, ◌≤◌, ◌<◌}
 use mathlib.Core.List.{List, []}
 use mathlib.Core.Path.{◌≡◌, refl, sym, subst, ◌∙◌}
 use native.Mathlib.Omega.{arith}
-use borrow.Author.Rules.{rules}
-use borrow.Author.Tests.{not-true, not-false}
 use lib.ListN.{length, length-set}
 use Rattle.laws.proofs.Tests.{told}
 use Rattle.chars.specs.Answers.{Reaches}
@@ -17,7 +15,7 @@ use Rattle.coder.specs.Name.{most_name, named}
 use Rattle.coder.specs.Held.{named_by, PlainAt, PreparedIs}
 use Rattle.coder.specs.declared.NameFault.{NameFault}
 use Rattle.coder.specs.declared.Prepared.{Prepared}
-use Rattle.coder.proofs.Chars.{Made, too_long, start, bad, space, strange, kept, end}
+use Rattle.coder.proofs.Chars.{too_long, start, bad, space, strange, kept, end}
 use Rattle.coder.proofs.name.prepare.Tie as tie
 use Rattle.coder.proofs.name.prepare.Lts as places
 use Rattle.coder.proofs.name.prepare.Reads as reads

@@ -1,23 +1,11 @@
 -- `name::prepare` meets its contract. The loop keeps Chars.Made: what is wanted of the bytes left is what is wanted of the name. A turn is Chars.space or
 -- Chars.kept, the ways out Chars.strange, Chars.bad and Chars.end. Each turn passes a byte at least, and a character takes no more entries than bytes.
 -- Assumes nothing.
-use Prim.Native.Nat.{ℕ, ◌+◌, ◌-◌, ◌≤◌, ◌<◌}
-use mathlib.Core.List.{List, []}
-use mathlib.Core.Path.{◌≡◌, refl, sym, subst, ◌∙◌}
-use native.Mathlib.Omega.{arith}
-use borrow.Author.Rules.{rules}
-use borrow.Author.Tests.{not-true, not-false}
-use lib.ListN.{length, length-set}
-use Rattle.laws.proofs.Tests.{told}
-use Rattle.chars.specs.Answers.{Reaches}
-use Rattle.chars.specs.declared.Char.{Char}
-use Rattle.plate.specs.Plate.{Plate}
+use Prim.Native.Nat.{◌-◌, ◌≤◌}
+use mathlib.Core.Path.{◌≡◌}
+use lib.ListN.{length}
 use Rattle.plate.specs.Read.{plate_in}
-use Rattle.coder.specs.Name.{most_name, named}
-use Rattle.coder.specs.Held.{named_by, PlainAt, PreparedIs}
-use Rattle.coder.specs.declared.NameFault.{NameFault}
-use Rattle.coder.specs.declared.Prepared.{Prepared}
-use Rattle.coder.proofs.Chars.{Made, too_long, start, bad, space, strange, kept, end}
+use Rattle.coder.proofs.Chars.{Made}
 use Rattle.coder.proofs.name.prepare.Given as goal
 
 abbrev pub invariant-loop-chars : goal.invariant-loop-chars

@@ -1,17 +1,17 @@
 -- `run::run` meets its contract. The loop keeps Steps.Left: what comes of the uses left and the branches held is what comes of all uses and the start. The
 -- last use is Steps.done, one branch that meets one alternative Steps.used-by with Single.extended, any other step Steps.used_over or Steps.used-on. Each
 -- use stands behind the one before, so the loop ends. Assumes nothing.
-use Prim.Native.Nat.{◌-◌, ◌≤◌, ◌<◌}
+use Prim.Native.Nat.{◌≤◌, ◌<◌}
 use native.Mathlib.Omega.{arith}
 use borrow.Author.Tests.{not-true, not-false}
 use mathlib.Core.Path.{◌≡◌}
-use lib.ListN.{length, take}
-use Rattle.plate.specs.Read.{rule_at, plate_in}
+use lib.ListN.{take}
+use Rattle.plate.specs.Read.{rule_at}
 use Rattle.plate.specs.Stands.{field_of}
 use Rattle.plate.specs.Field.{FieldOk, alternatives_of}
-use Rattle.branches.specs.Held.{BranchesOk, branches_of}
+use Rattle.branches.specs.Held.{branches_of}
 use Rattle.coder.proofs.Alternatives.{taken_field}
-use Rattle.coder.proofs.Steps.{no_room, begin, done, used-by, used_over, used-on, Left}
+use Rattle.coder.proofs.Steps.{no_room, begin, done, used-by, used_over, used-on}
 use Rattle.coder.proofs.Single.{branch_ok, only_ok, extended_ok, extended, as_many}
 use Rattle.coder.proofs.run.run.Tie as tie
 use Rattle.coder.proofs.run.run.Lts as places

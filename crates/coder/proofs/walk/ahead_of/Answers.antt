@@ -1,11 +1,10 @@
 -- `walk::ahead_of` meets its contract: the bytes so far are the first i characters as one number (Compared.bytes-more), and at each way out they are shifted to
 -- the front (Compared.in-front). Assumes nothing.
-use Prim.Native.Nat.{ℕ, ◌+◌, ◌-◌, ◌*◌, ◌^◌, ◌≤◌, ◌<◌}
+use Prim.Native.Nat.{ℕ, ◌+◌, ◌*◌, ◌^◌, ◌<◌}
 use mathlib.Core.Path.{◌≡◌, refl, sym, ap, ap₂, subst, ◌∙◌}
 use mathlib.Core.List.{List}
 use native.Mathlib.Numerals.{add-one}
 use native.Mathlib.Omega.{arith}
-use borrow.Author.Rules.{rules}
 use lib.Pow.{pow_mono}
 use lib.ListN.{get_or}
 use Rattle.plate.specs.Stands.{packed}

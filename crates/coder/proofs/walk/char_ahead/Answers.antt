@@ -1,6 +1,5 @@
 -- `walk::char_ahead` meets its contract: behind the end there is 0. Assumes nothing.
 use mathlib.Core.Path.{sym}
-use borrow.Author.Rules.{rules}
 use lib.ListN.{get_or-eq_default}
 use Rattle.coder.proofs.walk.char_ahead.Goals as goal
 

@@ -1,5 +1,4 @@
 -- `walk::is_forced` meets its contract, by the tests on what stood before. Assumes nothing.
-use borrow.Author.Tests.{not-true, not-false}
 use Rattle.coder.proofs.Fields.{forced_not, forced_m, forced_n, forced_other}
 use Rattle.coder.proofs.walk.is_forced.Goals as goal
 

@@ -1,16 +1,15 @@
 -- `walk::search` meets its contract. The loop over the group's rules keeps Groups.Left: the search from here on, in the group, is the search over all rules.
 -- Most patterns are decided by the characters ahead (Compared.said-begins, Compared.said-not). The loop over a pattern's bytes keeps: what is left of the pattern begins the characters left exactly if the whole pattern begins them all. Assumes nothing.
-use Prim.Native.Nat.{ℕ, ◌+◌, ◌-◌, ◌≤◌, ◌<◌}
+use Prim.Native.Nat.{ℕ, ◌+◌, ◌≤◌, ◌<◌}
 use mathlib.Core.Path.{◌≡◌, sym, ap, ◌∙◌}
 use mathlib.Core.Bool.{false}
 use mathlib.Core.List.{List}
 use native.Mathlib.Nat.{zero-add}
 use native.Mathlib.Omega.{arith}
-use borrow.Author.Rules.{rules}
-use lib.ListN.{length, drop, get_or}
+use lib.ListN.{length, get_or}
 use Rattle.laws.specs.Lists.{begins}
 use Rattle.plate.specs.Read.{pattern_at, rule_at}
-use Rattle.plate.specs.Stands.{Here, Mark, letters_from}
+use Rattle.plate.specs.Stands.{Here, letters_from}
 use Rattle.plate.proofs.Parts.{mark_start}
 use Rattle.coder.specs.Walk.{letters}
 use Rattle.coder.proofs.Groups.{Left, left_start, left_end, left-hit, left-miss, has-place, stands, one_letter}

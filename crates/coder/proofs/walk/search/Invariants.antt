@@ -1,21 +1,13 @@
 -- `walk::search` meets its contract. The loop over the group's rules keeps Groups.Left: the search from here on, in the group, is the search over all rules.
 -- Most patterns are decided by the characters ahead (Compared.said-begins, Compared.said-not). The loop over a pattern's bytes keeps: what is left of the pattern begins the characters left exactly if the whole pattern begins them all. Assumes nothing.
-use Prim.Native.Nat.{ℕ, ◌+◌, ◌-◌, ◌≤◌, ◌<◌}
-use mathlib.Core.Path.{◌≡◌, sym, ap, ◌∙◌}
-use mathlib.Core.Bool.{false}
-use mathlib.Core.List.{List}
-use native.Mathlib.Nat.{zero-add}
-use native.Mathlib.Omega.{arith}
-use borrow.Author.Rules.{rules}
-use lib.ListN.{length, drop, get_or}
+use Prim.Native.Nat.{◌+◌, ◌-◌, ◌≤◌}
+use mathlib.Core.Path.{◌≡◌}
+use lib.ListN.{length, drop}
 use Rattle.laws.specs.Lists.{begins}
-use Rattle.plate.specs.Read.{pattern_at, rule_at}
-use Rattle.plate.specs.Stands.{Here, Mark, letters_from}
-use Rattle.plate.proofs.Parts.{mark_start}
+use Rattle.plate.specs.Read.{rule_at}
+use Rattle.plate.specs.Stands.{Mark, letters_from}
 use Rattle.coder.specs.Walk.{letters}
-use Rattle.coder.proofs.Groups.{Left, left_start, left_end, left-hit, left-miss, has-place, stands, one_letter}
-use Rattle.coder.proofs.Compared.{said_begins, said_not}
-use Rattle.coder.proofs.Patterns.{all, ends, differs, agrees, pattern_start, pattern_end}
+use Rattle.coder.proofs.Groups.{Left}
 use Rattle.coder.proofs.walk.search.Given as goal
 
 abbrev pub invariant-bytes : goal.invariant-bytes

@@ -1,6 +1,5 @@
 -- `walk::vowel_at` meets its contract: the character at a place is the first of those from there on. Assumes nothing.
 use mathlib.Core.Path.{◌∙◌}
-use borrow.Author.Rules.{rules}
 use Rattle.coder.proofs.Fields.{vowel_here, vowel_none}
 use Rattle.coder.proofs.walk.vowel_at.Goals as goal
 

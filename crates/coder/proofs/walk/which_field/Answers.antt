@@ -1,6 +1,5 @@
 -- `walk::which_field` meets its contract, by the two tests. Assumes nothing.
 use native.Mathlib.Omega.{arith}
-use borrow.Author.Tests.{not-true, not-false}
 use Rattle.coder.proofs.walk.which_field.Goals as goal
 
 pub returns-then-not-started : goal.returns-then-not-started

@@ -1,13 +1,11 @@
 -- `write::put` meets its contract. The loop keeps: the first digits stand, and behind them what was lent; a turn is Joined.copied. Assumes nothing.
-use Prim.Native.Nat.{◌-◌, ◌≤◌, ◌<◌}
+use Prim.Native.Nat.{◌<◌}
 use mathlib.Core.Path.{◌≡◌, refl, ◌∙◌}
-use mathlib.Core.List.{◌++◌}
 use native.Mathlib.Omega.{arith}
 use borrow.Author.Rules.{rules}
 use lib.Seq.{take_all}
-use lib.ListN.{length, take, drop, length-set}
+use lib.ListN.{length, length-set}
 use Rattle.coder.proofs.Joined.{copied}
-use Rattle.coder.proofs.write.put.Tie as tie
 use Rattle.coder.proofs.write.put.Lts as places
 use Rattle.coder.proofs.write.put.Reads as reads
 use Rattle.coder.proofs.write.put.Goals as goal

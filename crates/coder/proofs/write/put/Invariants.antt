@@ -1,12 +1,8 @@
 -- `write::put` meets its contract. The loop keeps: the first digits stand, and behind them what was lent; a turn is Joined.copied. Assumes nothing.
-use Prim.Native.Nat.{◌-◌, ◌≤◌, ◌<◌}
-use mathlib.Core.Path.{◌≡◌, refl, ◌∙◌}
+use Prim.Native.Nat.{◌-◌, ◌≤◌}
+use mathlib.Core.Path.{◌≡◌}
 use mathlib.Core.List.{◌++◌}
-use native.Mathlib.Omega.{arith}
-use borrow.Author.Rules.{rules}
-use lib.Seq.{take_all}
-use lib.ListN.{length, take, drop, length-set}
-use Rattle.coder.proofs.Joined.{copied}
+use lib.ListN.{length, take, drop}
 use Rattle.coder.proofs.write.put.Given as goal
 
 abbrev pub invariant-loop-i : goal.invariant-loop-i

@@ -1,7 +1,6 @@
 -- `write::write` meets its contract. The loop keeps: the first k codes stand, joined, and behind them what was lent. A turn is Joined.bar or Joined.no-bar,
 -- then Joined.put_on; the end is Joined.all-joined. Assumes nothing.
 use Prim.Native.Nat.{ℕ, ◌+◌, ◌-◌, ◌*◌, ◌≤◌, ◌<◌}
-use mathlib.Core.Logic.{⊎_elim}
 use mathlib.Core.Path.{◌≡◌, refl, sym, ap, ◌∙◌}
 use mathlib.Core.List.{List, ◌++◌}
 use native.Mathlib.Omega.{arith}
@@ -33,11 +32,11 @@ barred-now c =
     let six = rows_six bs p.0 in
     let some : l.k ≤ length (rows bs) = omega arith in
     elim c.if-k-gt0.branch [
-      then-k-gt0 w ↦ (
+      | then-k-gt0 w ↦ (
         ap length w.out-is ∙ length-set l.out (7 * l.k - 1) 124 ∙ l.invariant.1,
         w.out-is ∙ bar (rows bs) six l.k o l.out w.if-k-gt0.true some (omega arith) l.invariant.2,
       )
-    | else-k-gt0 w ↦ (ap length w.out-is ∙ l.invariant.1, w.out-is ∙ no_bar (rows bs) six l.k o l.out (let e = w.if-k-gt0.false in omega arith) l.invariant.2)
+      | else-k-gt0 w ↦ (ap length w.out-is ∙ l.invariant.1, w.out-is ∙ no_bar (rows bs) six l.k o l.out (let e = w.if-k-gt0.false in omega arith) l.invariant.2)
     ]
 
 pub loop-k-init : goal.loop-k-init

@@ -1,14 +1,11 @@
 -- `write::write` meets its contract. The loop keeps: the first k codes stand, joined, and behind them what was lent. A turn is Joined.bar or Joined.no-bar,
 -- then Joined.put_on; the end is Joined.all-joined. Assumes nothing.
-use Prim.Native.Nat.{ℕ, ◌+◌, ◌-◌, ◌*◌, ◌≤◌, ◌<◌}
-use mathlib.Core.Logic.{⊎_elim}
-use mathlib.Core.Path.{◌≡◌, refl, sym, ap, ◌∙◌}
-use mathlib.Core.List.{List, ◌++◌}
-use native.Mathlib.Omega.{arith}
-use lib.ListN.{length-set, length-drop, length, take, drop}
-use Rattle.laws.proofs.Lists.{rest}
+use Prim.Native.Nat.{◌-◌, ◌*◌, ◌≤◌}
+use mathlib.Core.Path.{◌≡◌}
+use mathlib.Core.List.{◌++◌}
+use lib.ListN.{length, take, drop}
 use Rattle.coder.specs.Answer.{joined}
-use Rattle.coder.proofs.Joined.{barred, rows, rows_six, rows_are, rows_count, rows_at, no_bar, bar, put_on, as_long, all_joined}
+use Rattle.coder.proofs.Joined.{rows}
 use Rattle.coder.proofs.write.write.Given as goal
 
 abbrev pub invariant-loop-k : goal.invariant-loop-k

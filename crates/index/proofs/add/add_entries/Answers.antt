@@ -1,5 +1,4 @@
 -- `add_entries` meets its contract: what is put and sorted apart, and then merged in front, is said by Added. Assumes nothing.
-use borrow.Author.Rules.{rules}
 use Rattle.index.proofs.Filling.{line_entries, line_count}
 use Rattle.index.proofs.Added.{front_long, front_whole, new_long, new_length, new_rises, lent-long, lent-whole, lent-more, old-rises, all-merged}
 use Rattle.index.proofs.add.add_entries.Goals as goal

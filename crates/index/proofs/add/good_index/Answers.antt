@@ -1,9 +1,7 @@
 -- `good_index` meets its contract: each way out is the definition's, in its order (Adding). Assumes nothing.
 use mathlib.Core.Path.{sym, ◌∙◌}
-use borrow.Author.Tests.{not-true, not-false}
 use lib.Seq.{length-take-le}
 use Rattle.index.proofs.Adding.{long_index, long_report, no_index, is_good}
-use borrow.Author.Rules.{rules}
 use Rattle.index.proofs.add.good_index.Goals as goal
 
 pub returns-then-index-used : goal.returns-then-index-used

@@ -1,10 +1,7 @@
 -- `count_marks` meets its contract. The loop keeps: those counted, and those marked from here on, are all. Assumes nothing.
-use Prim.Native.Nat.{◌+◌, ◌-◌, ◌≤◌}
-use mathlib.Core.Path.{◌≡◌, ap}
-use mathlib.Core.Logic.{⊎_elim}
+use mathlib.Core.Path.{ap}
 use native.Mathlib.Omega.{arith}
-use lib.ListN.{length, drop}
-use Rattle.index.specs.Held.{marked}
+use lib.ListN.{length}
 use Rattle.index.proofs.Found.{marked_end, marked_skip, marked_take}
 use Rattle.index.proofs.find.count_marks.Goals as goal
 use Rattle.index.proofs.find.count_marks.Goals.{then-marks-i-ne0, else-marks-i-ne0}
@@ -18,10 +15,10 @@ loop-i-preserved c =
     let l = c.loop-i in
     let h = c.loop-i-test.true in
     elim c.if-marks-i-ne0.branch [
-      then-marks-i-ne0 w ↦
-        (omega arith, omega (arith, w.n-is), omega (arith, w.n-is, l.invariant.2, ap length (marked_take a.marks.now l.i h w.if-marks-i-ne0.true)))
-    | else-marks-i-ne0 w ↦
-        (omega arith, omega (arith, w.n-is), omega (arith, w.n-is, l.invariant.2, ap length (marked_skip a.marks.now l.i h w.if-marks-i-ne0.false)))
+      | then-marks-i-ne0 w ↦
+          (omega arith, omega (arith, w.n-is), omega (arith, w.n-is, l.invariant.2, ap length (marked_take a.marks.now l.i h w.if-marks-i-ne0.true)))
+      | else-marks-i-ne0 w ↦
+          (omega arith, omega (arith, w.n-is), omega (arith, w.n-is, l.invariant.2, ap length (marked_skip a.marks.now l.i h w.if-marks-i-ne0.false)))
     ]
 
 pub returns : goal.returns

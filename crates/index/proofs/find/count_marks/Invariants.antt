@@ -1,11 +1,8 @@
 -- `count_marks` meets its contract. The loop keeps: those counted, and those marked from here on, are all. Assumes nothing.
 use Prim.Native.Nat.{◌+◌, ◌-◌, ◌≤◌}
-use mathlib.Core.Path.{◌≡◌, ap}
-use mathlib.Core.Logic.{⊎_elim}
-use native.Mathlib.Omega.{arith}
+use mathlib.Core.Path.{◌≡◌}
 use lib.ListN.{length, drop}
 use Rattle.index.specs.Held.{marked}
-use Rattle.index.proofs.Found.{marked_end, marked_skip, marked_take}
 use Rattle.index.proofs.find.count_marks.Given as goal
 
 abbrev pub invariant-loop-i : goal.invariant-loop-i

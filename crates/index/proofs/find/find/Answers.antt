@@ -2,8 +2,6 @@
 use mathlib.Core.Path.{◌≡◌, refl, sym, ◌∙◌}
 use mathlib.Core.Bool.{true}
 use native.Mathlib.Omega.{arith}
-use borrow.Author.Rules.{rules}
-use borrow.Author.Tests.{not-true, not-false}
 use Rattle.plate.specs.Read.{accepted}
 use Rattle.plate.specs.Noted.{Noted}
 use Rattle.plate.proofs.Facts.{most_few}

@@ -1,16 +1,11 @@
 -- `mark_code` meets its contract. The loop keeps: the records of the entries before this place are marked, and the code's place is not behind it. A turn is
 -- Marks.marks-turn, an entry of another code Marks.marks-stop, the end Marks.marks-end. Assumes nothing.
-use Prim.Native.Nat.{◌-◌, ◌*◌, ◌≤◌, ◌<◌}
+use Prim.Native.Nat.{◌-◌, ◌*◌, ◌≤◌}
 use mathlib.Core.List.{[], ◌∷◌}
-use native.Mathlib.Omega.{arith}
-use lib.ListN.{length, take}
-use Rattle.laws.specs.Sort.{Rising, position}
+use lib.ListN.{take}
+use Rattle.laws.specs.Sort.{position}
 use Rattle.entries.specs.Entries.{entries, most_records}
-use Rattle.entries.proofs.Bytes.{length_entries}
-use Rattle.entries.proofs.Index.{index_true}
-use Rattle.laws.proofs.Rising.{strict_weak}
 use Rattle.index.specs.Held.{Marks}
-use Rattle.index.proofs.Marks.{marks_start, marks_turn, marks_stop, marks_end}
 use Rattle.index.proofs.find.mark_code.Given as goal
 
 abbrev pub invariant-loop-i : goal.invariant-loop-i

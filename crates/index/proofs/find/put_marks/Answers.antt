@@ -1,12 +1,10 @@
 -- `put_marks` meets its contract. The loop keeps: the records before this place are written, and for the others there is room (Found.Written). Assumes nothing.
-use Prim.Native.Nat.{ℕ, ◌+◌, ◌-◌, ◌/◌, ◌%◌, ◌≤◌, ◌<◌}
+use Prim.Native.Nat.{ℕ, ◌+◌, ◌/◌, ◌%◌, ◌≤◌, ◌<◌}
 use mathlib.Core.Path.{sym, subst}
-use mathlib.Core.Logic.{⊎_elim}
 use mathlib.Core.List.{List}
 use native.Mathlib.Omega.{arith}
 use lib.ListN.{length, set, length-set}
 use Rattle.index.proofs.Found.{Written, none_written, written_long, written_skip, written_room, written_take, all_written}
-use Rattle.index.proofs.find.put_marks.Tie as tie
 use Rattle.index.proofs.find.put_marks.Lts as places
 use Rattle.index.proofs.find.put_marks.Reads as reads
 use Rattle.index.proofs.find.put_marks.Goals as goal
@@ -35,14 +33,14 @@ joined c =
     let l = c.loop-i in
     let h = c.loop-i-test.true in
     elim c.if-marks-i-ne0.branch [
-      then-marks-i-ne0 w ↦
-        subst (λ (o : List ℕ). Written a.marks.now a.out.now (l.i + 1) c.if-marks-i-ne0.to o) (sym w.out-is)
-        (subst (λ (k : ℕ). Written a.marks.now a.out.now (l.i + 1) k (set (set l.out l.to (l.i / 256)) (l.to + 1) (l.i % 256))) (sym w.to-is)
-        (written_take a.marks.now a.out.now l.i l.to l.out l.invariant.1 h w.if-marks-i-ne0.true))
-    | else-marks-i-ne0 w ↦
-        subst (λ (o : List ℕ). Written a.marks.now a.out.now (l.i + 1) c.if-marks-i-ne0.to o) (sym w.out-is)
-        (subst (λ (k : ℕ). Written a.marks.now a.out.now (l.i + 1) k l.out) (sym w.to-is)
-        (written_skip a.marks.now a.out.now l.i l.to l.out l.invariant.1 h w.if-marks-i-ne0.false))
+      | then-marks-i-ne0 w ↦
+          subst (λ (o : List ℕ). Written a.marks.now a.out.now (l.i + 1) c.if-marks-i-ne0.to o) (sym w.out-is)
+          (subst (λ (k : ℕ). Written a.marks.now a.out.now (l.i + 1) k (set (set l.out l.to (l.i / 256)) (l.to + 1) (l.i % 256))) (sym w.to-is)
+          (written_take a.marks.now a.out.now l.i l.to l.out l.invariant.1 h w.if-marks-i-ne0.true))
+      | else-marks-i-ne0 w ↦
+          subst (λ (o : List ℕ). Written a.marks.now a.out.now (l.i + 1) c.if-marks-i-ne0.to o) (sym w.out-is)
+          (subst (λ (k : ℕ). Written a.marks.now a.out.now (l.i + 1) k l.out) (sym w.to-is)
+          (written_skip a.marks.now a.out.now l.i l.to l.out l.invariant.1 h w.if-marks-i-ne0.false))
     ]
 
 pub loop-i-init : goal.loop-i-init

@@ -1,11 +1,7 @@
 -- `put_marks` meets its contract. The loop keeps: the records before this place are written, and for the others there is room (Found.Written). Assumes nothing.
-use Prim.Native.Nat.{ℕ, ◌+◌, ◌-◌, ◌/◌, ◌%◌, ◌≤◌, ◌<◌}
-use mathlib.Core.Path.{sym, subst}
-use mathlib.Core.Logic.{⊎_elim}
-use mathlib.Core.List.{List}
-use native.Mathlib.Omega.{arith}
-use lib.ListN.{length, set, length-set}
-use Rattle.index.proofs.Found.{Written, none_written, written_long, written_skip, written_room, written_take, all_written}
+use Prim.Native.Nat.{◌-◌, ◌≤◌}
+use lib.ListN.{length}
+use Rattle.index.proofs.Found.{Written}
 use Rattle.index.proofs.find.put_marks.Given as goal
 
 abbrev pub invariant-loop-i : goal.invariant-loop-i

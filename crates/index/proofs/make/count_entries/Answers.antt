@@ -1,10 +1,10 @@
 -- `count_entries` meets its contract. The loop keeps: the codes counted and those of the names from here on are all codes. A turn is Making.counted_next, the end
 -- Making.counted-all. Assumes nothing.
-use Prim.Native.Nat.{ℕ, ◌+◌, ◌-◌, ◌*◌, ◌<◌, ◌≤◌}
-use mathlib.Core.Path.{◌≡◌, refl, sym}
+use Prim.Native.Nat.{ℕ, ◌+◌, ◌*◌, ◌<◌, ◌≤◌}
+use mathlib.Core.Path.{refl, sym}
 use native.Mathlib.Omega.{arith}
 use lib.ListN.{length, drop}
-use Rattle.ward.specs.Ward.{names, list_bytes}
+use Rattle.ward.specs.Ward.{names}
 use Rattle.ward.proofs.Names.{names_at, names_end}
 use Rattle.index.proofs.Entries.{codes_of_all, all_few}
 use Rattle.index.proofs.Making.{counted_next, counted_all}

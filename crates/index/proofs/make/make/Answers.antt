@@ -5,7 +5,6 @@ use mathlib.Core.Path.{◌≡◌, refl, sym, ap, ◌∙◌}
 use mathlib.Core.Bool.{true}
 use mathlib.Core.List.{List, ◌++◌}
 use native.Mathlib.Omega.{arith}
-use borrow.Author.Tests.{not-true, not-false}
 use lib.ListN.{length, take, drop}
 use lib.Seq.{length-take-le, length_front}
 use Rattle.plate.specs.Read.{accepted}
@@ -17,7 +16,6 @@ use Rattle.entries.specs.Entries.{most_records}
 use Rattle.index.specs.Index.{entries_from}
 use Rattle.index.proofs.Entries.{all_count, all_few}
 use Rattle.index.proofs.Answers.{no_plate, many_names, short-report, short-index, index_left, all_made}
-use borrow.Author.Rules.{rules}
 use Rattle.index.proofs.make.make.Tie as tie
 use Rattle.index.proofs.make.make.Lts as places
 use Rattle.index.proofs.make.make.Reads as reads

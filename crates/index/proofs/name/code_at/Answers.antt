@@ -108,9 +108,8 @@ with_digit-requires c =
     ((let b = bound5 c.before.before in omega arith), d.0, d.1)
 
 pub returns : goal.returns
-returns c =
-    (
-      six_number c.args.line.now c.args.at c.requires _ _ _ _ _ _ c.with_digit-a.ensures.0 c.with_digit-b.ensures.0 c.with_digit-c.ensures.0 c.with_digit-d.ensures.0
-          c.with_digit-e.ensures.0 c.with_digit.ensures.0,
-      bound6 c.before,
-    )
+returns c = (
+  six_number c.args.line.now c.args.at c.requires _ _ _ _ _ _ c.with_digit-a.ensures.0 c.with_digit-b.ensures.0 c.with_digit-c.ensures.0 c.with_digit-d.ensures.0
+      c.with_digit-e.ensures.0 c.with_digit.ensures.0,
+  bound6 c.before,
+)

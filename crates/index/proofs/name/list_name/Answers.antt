@@ -12,7 +12,6 @@ use Rattle.coder.proofs.Answers.{by_plate, list_is}
 use Rattle.index.specs.Held.{ListedIs}
 use Rattle.index.specs.declared.Listed.{Listed}
 use Rattle.index.proofs.Codes.{is_listed}
-use borrow.Author.Rules.{rules}
 use Rattle.index.proofs.name.list_name.Tie as tie
 use Rattle.index.proofs.name.list_name.Lts as places
 use Rattle.index.proofs.name.list_name.Reads as reads

@@ -1,5 +1,4 @@
 -- `adds_afresh` meets its contract: the three calls' promises give the same index and report (proofs/IndexAfresh.antt). Assumes nothing.
-use borrow.Author.Rules.{rules}
 use Rattle.promises.proofs.IndexAfresh.{adds_afresh}
 use Rattle.promises.proofs.code_index.adds_afresh.Goals as goal
 

@@ -1,6 +1,5 @@
 -- `adds_name` meets its contract: dm_index_add's promise gives numbers (proofs/IndexAdds.antt). Assumes nothing.
 use native.Mathlib.Omega.{arith}
-use borrow.Author.Rules.{rules}
 use Rattle.promises.proofs.Calls.{bytes_of}
 use Rattle.promises.proofs.IndexAdds.{adds_name}
 use Rattle.promises.proofs.code_index.adds_name.Goals as goal

@@ -1,6 +1,5 @@
 -- `finds` meets its contract: dm_index_find's promise gives numbers (proofs/IndexAnswers.antt). Assumes nothing.
 use native.Mathlib.Omega.{arith}
-use borrow.Author.Rules.{rules}
 use Rattle.promises.proofs.Calls.{bytes_of}
 use Rattle.promises.proofs.IndexAnswers.{finds_records}
 use Rattle.promises.proofs.code_index.finds.Goals as goal

@@ -1,6 +1,5 @@
 -- `folders_kept` meets its contract: both lookups' promises, and demand 3c (proofs/IndexFinds.antt). Assumes nothing.
 use native.Mathlib.Omega.{arith}
-use borrow.Author.Rules.{rules}
 use Rattle.promises.proofs.Calls.{bytes_of}
 use Rattle.promises.proofs.IndexFinds.{folders_kept}
 use Rattle.promises.proofs.code_index.folders_kept.Goals as goal

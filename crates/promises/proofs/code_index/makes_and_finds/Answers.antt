@@ -1,6 +1,5 @@
 -- `makes_and_finds` meets its contract: what is made stands in front of the buffer, and find's promise in it gives who shares a code (proofs/IndexFinds.antt). Assumes nothing.
 use mathlib.Core.Path.{sym}
-use borrow.Author.Rules.{rules}
 use lib.Seq.{length-take-le}
 use Rattle.promises.proofs.IndexAnswers.{index_within}
 use Rattle.promises.proofs.IndexFinds.{makes_and_finds}
@@ -21,6 +20,6 @@ pub returns : goal.returns
 returns c =
     let a = c.args in
     let p =
-        makes_and_finds a.plate.now a.names.now (record { index = a.index.now; report = a.report.now }) a.name.now a.out.now _ _
-        c.dm_index_make-made.ensures c.dm_index_find-found.ensures in
+    makes_and_finds a.plate.now a.names.now (record { index = a.index.now; report = a.report.now }) a.name.now a.out.now _ _
+    c.dm_index_make-made.ensures c.dm_index_find-found.ensures in
     record { folder_found = p.0; looks = p.1 }

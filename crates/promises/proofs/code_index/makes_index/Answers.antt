@@ -1,6 +1,5 @@
 -- `makes_index` meets its contract: dm_index_make's promise gives numbers and what is made (proofs/IndexAnswers.antt). Assumes nothing.
 use native.Mathlib.Omega.{arith}
-use borrow.Author.Rules.{rules}
 use Rattle.promises.proofs.Calls.{bytes_of}
 use Rattle.promises.proofs.IndexAnswers.{makes_index}
 use Rattle.promises.proofs.code_index.makes_index.Goals as goal

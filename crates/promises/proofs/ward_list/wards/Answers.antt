@@ -1,6 +1,5 @@
 -- `wards` meets its contract: dm_ward's promise gives numbers and lines (proofs/Ward.antt). Assumes nothing.
 use native.Mathlib.Omega.{arith}
-use borrow.Author.Rules.{rules}
 use Rattle.promises.proofs.Calls.{bytes_of}
 use Rattle.promises.proofs.Ward.{wards}
 use Rattle.promises.proofs.ward_list.wards.Goals as goal

@@ -1,6 +1,5 @@
 -- `wards_alike` meets its contract: dm_ward's promise, twice, gives the lines of equal names (proofs/Ward.antt). Assumes nothing.
 use native.Mathlib.Omega.{arith}
-use borrow.Author.Rules.{rules}
 use Rattle.promises.proofs.Calls.{bytes_of}
 use Rattle.promises.proofs.Ward.{wards_alike}
 use Rattle.promises.proofs.ward_list.wards_alike.Goals as goal

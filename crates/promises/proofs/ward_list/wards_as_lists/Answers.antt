@@ -1,6 +1,5 @@
 -- `wards_as_lists` meets its contract: dm_ward's promise and dm_list's give the line of a name (proofs/Ward.antt). Assumes nothing.
 use native.Mathlib.Omega.{arith}
-use borrow.Author.Rules.{rules}
 use Rattle.promises.proofs.Calls.{bytes_of}
 use Rattle.promises.proofs.Ward.{ward_lists}
 use Rattle.promises.proofs.ward_list.wards_as_lists.Goals as goal

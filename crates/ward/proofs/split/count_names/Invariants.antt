@@ -1,11 +1,9 @@
 -- `count_names` meets its contract. The loop keeps: the names counted and those from here on are all names, and each had a byte at least (its newline). A turn is
 -- Names.names_at, the ways out are Names.name-left and Names.names-end. Assumes nothing.
 use Prim.Native.Nat.{◌+◌, ◌-◌, ◌≤◌}
-use mathlib.Core.Path.{◌≡◌, ap, ◌∙◌}
-use native.Mathlib.Omega.{arith}
+use mathlib.Core.Path.{◌≡◌}
 use lib.ListN.{length, drop}
 use Rattle.ward.specs.Ward.{names}
-use Rattle.ward.proofs.Names.{names_at, names_end, name_left, smaller_left, smaller_right}
 use Rattle.ward.proofs.split.count_names.Given as goal
 
 abbrev pub invariant-loop-at : goal.invariant-loop-at

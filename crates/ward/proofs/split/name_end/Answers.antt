@@ -4,7 +4,6 @@ use mathlib.Core.Path.{ap}
 use native.Mathlib.Omega.{arith}
 use lib.ListN.{length-drop}
 use Rattle.laws.proofs.Lists.{rest}
-use borrow.Author.Rules.{rules}
 use Rattle.ward.proofs.split.name_end.Goals as goal
 
 pub returns : goal.returns

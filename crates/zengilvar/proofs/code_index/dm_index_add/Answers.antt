@@ -1,6 +1,5 @@
 -- `dm_index_add` meets its contract: the numbers are those of add's answer, whatever the buffers. Assumes nothing.
 use mathlib.Core.Path.{◌∙◌}
-use borrow.Author.Rules.{rules}
 use Rattle.zengilvar.proofs.code_index.dm_index_add.Goals as goal
 
 pub returns : goal.returns

@@ -1,6 +1,5 @@
 -- `dm_index_find` meets its contract: the numbers are those of find's answer, whatever the buffer. Assumes nothing.
 use mathlib.Core.Path.{◌∙◌}
-use borrow.Author.Rules.{rules}
 use Rattle.zengilvar.proofs.code_index.dm_index_find.Goals as goal
 
 pub returns : goal.returns

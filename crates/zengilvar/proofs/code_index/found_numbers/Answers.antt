@@ -6,7 +6,6 @@ use Rattle.index.specs.Outcome.{told_found}
 use Rattle.index.specs.declared.Looked.{Looked}
 use Rattle.zengilvar.specs.Ward.{wrote}
 use Rattle.zengilvar.specs.declared.DmWritten.{DmWritten}
-use borrow.Author.Rules.{rules}
 use Rattle.zengilvar.proofs.code_index.found_numbers.Goals as goal
 
 -- A refusal's numbers.

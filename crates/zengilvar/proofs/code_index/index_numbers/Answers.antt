@@ -6,7 +6,6 @@ use Rattle.index.specs.Outcome.{told}
 use Rattle.index.specs.declared.Filed.{Filed}
 use Rattle.zengilvar.specs.Index.{indexed}
 use Rattle.zengilvar.specs.declared.DmIndexed.{DmIndexed}
-use borrow.Author.Rules.{rules}
 use Rattle.zengilvar.proofs.code_index.index_numbers.Goals as goal
 
 -- A refusal's numbers.

@@ -6,7 +6,6 @@ use Rattle.ward.specs.Outcome.{told}
 use Rattle.ward.specs.declared.Warded.{Warded}
 use Rattle.zengilvar.specs.Ward.{wrote}
 use Rattle.zengilvar.specs.declared.DmWritten.{DmWritten}
-use borrow.Author.Rules.{rules}
 use Rattle.zengilvar.proofs.ward_list.written_numbers.Goals as goal
 
 -- A refusal's numbers.
