@@ -30,12 +30,6 @@ branches-init c = (zero-le, omega arith, record { first = none_ok _ c.requires.l
 pub loop-h-init : goal.loop-h-init
 loop-h-init c = (zero-le, refl, refl)
 
-pub offset_bounds-next-h : goal.offset_bounds-next-h
-offset_bounds-next-h c = let i = c.branches.invariant.2.first.small in omega arith
-
-pub bounds-next-h : goal.bounds-next-h
-bounds-next-h c = let i = c.branches.invariant.2.first.small in omega arith
-
 pub same_code-requires : goal.same_code-requires
 same_code-requires c =
     (item_ok _ _ _ (first_ok _ _ c.requires) c.branches-test.true, item_ok _ _ _ c.branches.invariant.2.first c.loop-h-test.true)
