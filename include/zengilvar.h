@@ -1,6 +1,6 @@
 /* Zengilvar: Daitch-Mokotoff codes of names, from rules that you give as text. zengilvar_standard.h has the standard rules, built.
  *
- * Link libzengilvar.a (`rt staticlib zengilvar` writes it to target/staticlib). It calls memcpy and memset alone, holds no memory
+ * Link libzengilvar.a (`tools/archive` writes it to target/staticlib). It calls memcpy and memset alone, holds no memory
  * between calls and takes none from a heap; calls may run in several threads at once, each with its own buffers.
  *
  * Buffers. Every buffer is yours, before, during and after the call; nothing keeps a pointer. The buffers that are read (text, plate,

@@ -1,4 +1,4 @@
-//! Says where libzengilvar.a is: in the folder that ZENGILVAR_LIB names, or where `rt staticlib zengilvar` puts it.
+//! Says where libzengilvar.a is: in the folder that ZENGILVAR_LIB names, or where `tools/archive` puts it.
 
 use std::env;
 use std::path::PathBuf;
@@ -15,7 +15,7 @@ fn main() {
     println!("cargo:rerun-if-changed={}", archive.display());
     if !archive.is_file() {
         eprintln!(
-            "There is no {}. Make it with `rt staticlib zengilvar`, or name its folder in ZENGILVAR_LIB.",
+            "There is no {}. Make it with `tools/archive`, or name its folder in ZENGILVAR_LIB.",
             archive.display()
         );
         std::process::exit(1);

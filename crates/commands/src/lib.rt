@@ -1,17 +1,14 @@
-// The commands as C's main starts them: each answers the status of its process.
+// The commands as the programs start them: each answers the status of its process.
 #![tactic(auto)]
 
-#[unsafe(no_mangle)]
-pub extern "C" fn dm_main() -> i32 {
-    dm::run()
+pub fn dm_main(rt: &HostRuntime) -> i32 {
+    dm::run(rt)
 }
 
-#[unsafe(no_mangle)]
-pub extern "C" fn desk_main() -> i32 {
-    desk::run()
+pub fn desk_main(rt: &HostRuntime) -> i32 {
+    desk::run(rt)
 }
 
-#[unsafe(no_mangle)]
-pub extern "C" fn ward_main() -> i32 {
-    ward_command::run()
+pub fn ward_main(rt: &HostRuntime) -> i32 {
+    ward_command::run(rt)
 }

@@ -104,7 +104,7 @@ fn shown(run: Course) -> Course {
     let counted = run.tally;
     Course {
         pen: pen,
-        tally: show(counted),
+        tally: show(&pen.rt, counted),
     }
 }
 
@@ -118,8 +118,8 @@ fn code_batch(
 ) -> Course {
     let r = dm_ward(plate, names, lines);
     if r.number != 0 {
-        tell_words(WARD, b"the library refused a list", b"\n");
         let pen = run.pen;
+        tell_words(&pen.rt, WARD, b"the library refused a list", b"\n");
         let counted = run.tally;
         return Course {
             pen: with_status(pen, FAULT),

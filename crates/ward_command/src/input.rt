@@ -1,14 +1,12 @@
 // An input read in blocks. Its whole lines are coded where they stand in the block; what is left of the last moves to the front. Of a line that is too long
 // to be a name only the front is kept, since it is refused whatever follows.
-ghost use Rattle.std.specs.Prelude.{◌≤◌, length};
-
 use super::Course;
 use super::batch::take_lines;
-use files::read::open;
+use files::read::{Source, open, read_once};
 use files::tell::tell_path;
 use front::out::{FAULT, Pen, WARD, flush, with_status};
 use front::rooms::{begins, byte, part};
-use libc::STDIN_FILENO;
+use std::io::Error;
 use std::num::wrapping_add_usize;
 
 // A name has 256 bytes at most, a byte order mark 3; a line of so many is refused, and so is all that begins with it.
@@ -32,20 +30,18 @@ fn with_pen(run: Course, pen: Pen) -> Course {
 }
 
 // It is told that a file cannot be read.
-pub(crate) fn cannot(run: Course, path: &[u8]) -> Course {
-    tell_path(WARD, path);
+pub(crate) fn cannot(run: Course, path: &[u8], error: Error) -> Course {
     let pen = run.pen;
+    tell_path(&pen.rt, WARD, path, error);
     with_pen(run, with_status(pen, FAULT))
 }
 
 // The place behind the last newline.
 fn whole_end(s: &[u8]) -> usize {
-    let mut at = s.len();
-    while 0 < at {
-        if s[at - 1] == b'\n' {
-            return at;
+    for i in (0..s.len()).rev() {
+        if s[i] == b'\n' {
+            return i + 1;
         }
-        at -= 1;
     }
     0
 }
@@ -113,7 +109,7 @@ fn read_some(
     plate: &[u8],
     lines: &mut [u8],
     chunk: &mut [u8],
-    fd: i32,
+    from: &Source,
     path: &[u8],
     bare: bool,
 ) -> Block {
@@ -128,36 +124,33 @@ fn read_some(
     if chunk.len() < kept {
         return stopped(b, run);
     }
-    let got = libc::read(fd, &mut chunk[kept..]);
-    if got < 0 {
-        return stopped(b, cannot(run, path));
+    match read_once(from, &mut chunk[kept..]) {
+        Err(error) => stopped(b, cannot(run, path, error)),
+        Ok(0) => stopped(b, run),
+        Ok(more) => {
+            let used = wrapping_add_usize(kept, more);
+            take_block(out, run, plate, lines, chunk, used, b.is_first, bare)
+        }
     }
-    if got == 0 {
-        return stopped(b, run);
-    }
-    let used = wrapping_add_usize(kept, io::count(got, chunk));
-    take_block(out, run, plate, lines, chunk, used, b.is_first, bare)
 }
 
-// Reads to the end. Nothing says that the input ends, so the turns are counted down from a number that no run uses up.
+// Reads to the end. Nothing says that the input ends, so the turns are counted up to a number that no run reaches.
 fn read_all(
     out: &mut [u8],
     b: Block,
     plate: &[u8],
     lines: &mut [u8],
     chunk: &mut [u8],
-    fd: i32,
+    from: &Source,
     path: &[u8],
     bare: bool,
 ) -> Block {
     let mut r = b;
-    let mut turns = u64::MAX;
-    while turns > 0 {
-        r = read_some(out, r, plate, lines, chunk, fd, path, bare);
+    for _ in 0..u64::MAX {
+        r = read_some(out, r, plate, lines, chunk, from, path, bare);
         if !r.more {
             return r;
         }
-        turns -= 1;
     }
     r
 }
@@ -188,7 +181,7 @@ fn take_input(
     plate: &[u8],
     lines: &mut [u8],
     chunk: &mut [u8],
-    fd: i32,
+    from: &Source,
     path: &[u8],
     bare: bool,
 ) -> Course {
@@ -198,7 +191,7 @@ fn take_input(
         more: true,
         run: run,
     };
-    let b = read_all(out, begin, plate, lines, chunk, fd, path, bare);
+    let b = read_all(out, begin, plate, lines, chunk, from, path, bare);
     take_last(out, b, plate, lines, chunk, bare)
 }
 
@@ -212,14 +205,9 @@ pub(crate) fn take_path(
     path: &[u8],
     bare: bool,
 ) -> Course {
-    let fd = open(WARD, path);
-    if fd < 0 {
-        let pen = run.pen;
-        return with_pen(run, with_status(pen, FAULT));
+    let pen = run.pen;
+    match open(&pen.rt, WARD, path) {
+        Some(from) => take_input(out, run, plate, lines, chunk, &from, path, bare),
+        None => with_pen(run, with_status(pen, FAULT)),
     }
-    let run = take_input(out, run, plate, lines, chunk, fd, path, bare);
-    if fd != STDIN_FILENO {
-        libc::close(fd);
-    }
-    run
 }

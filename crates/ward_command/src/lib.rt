@@ -8,7 +8,7 @@ mod batch; // batch.rt: the names of one call
 mod input; // input.rt: an input read in blocks
 
 use files::read::fill_gaps;
-use front::options::{NO_VALUE, NOTHING, OPERAND, tell};
+use front::options::{NO_VALUE, NOTHING, OPERAND, arg_count, tell, why_not, word};
 use front::out::{ANSWERED, FAULT, Pen, WARD, answers, flush};
 use front::rooms::{chunk_room, out_room, part, plate_room};
 use names::given::load;
@@ -37,12 +37,14 @@ fn take_argument(
     i: usize,
     bare: bool,
 ) -> Course {
+    let pen = run.pen;
     let mut path = io::buffer();
-    let n = os::arg(i, &mut path);
-    if os::errno() != 0 {
-        return input::cannot(run, &path);
+    let v = word(&pen.rt, i, &mut path);
+    if !v.is_whole {
+        return input::cannot(run, &path, why_not(v));
     }
-    input::take_path(out, run, plate, lines, chunk, part(&path, 0, n), bare)
+    let named = part(&path, v.start, v.end);
+    input::take_path(out, run, plate, lines, chunk, named, bare)
 }
 
 // What the argument at a place asks for, if it is a file.
@@ -74,14 +76,15 @@ fn take_arguments(
     chunk: &mut [u8],
     bare: bool,
 ) -> Course {
+    let pen = run.pen;
     let mut w = words::none();
     let mut r = run;
-    let end = os::arg_count();
+    let end = arg_count(&pen.rt);
     if end <= 1 {
         return r;
     }
     for i in 1..end {
-        w = words::next(w, i);
+        w = words::next(&pen.rt, w, i);
         r = take_next(out, r, plate, lines, chunk, w, i, bare);
     }
     r
@@ -103,10 +106,10 @@ fn take_all(
     take_arguments(out, run, plate, lines, chunk, w.bare)
 }
 
-fn serve(plate: &[u8], w: Words) -> i32 {
+fn serve(rt: &HostRuntime, plate: &[u8], w: Words) -> i32 {
     let run = Course {
-        pen: answers(WARD),
-        tally: tally::nothing(),
+        pen: answers(rt, WARD),
+        tally: tally::nothing(rt),
     };
     let mut out = out_room();
     let mut lines = lines_room();
@@ -115,47 +118,47 @@ fn serve(plate: &[u8], w: Words) -> i32 {
     let pen = run.pen;
     let pen = flush(&out, pen);
     let counted = run.tally;
-    tally::tell(counted);
+    tally::tell(rt, counted);
     pen.status
 }
 
-fn serve_by(w: Words) -> i32 {
+fn serve_by(rt: &HostRuntime, w: Words) -> i32 {
     let s = w.scan;
     let mut plate = plate_room();
-    let given = load(WARD, s.plate, &mut plate);
+    let given = load(rt, WARD, s.plate, &mut plate);
     if given.status != ANSWERED {
         return given.status;
     }
     let n = given.count;
-    serve(part(&plate, 0, n), w)
+    serve(rt, part(&plate, 0, n), w)
 }
 
-fn misused(fault: u8, i: usize) -> i32 {
-    tell(WARD, fault, i, b"; ward --help tells more\n")
+fn misused(rt: &HostRuntime, fault: u8, i: usize) -> i32 {
+    tell(rt, WARD, fault, i, b"; ward --help tells more\n")
 }
 
 // The status of the process.
-pub fn run() -> i32 {
-    fill_gaps();
-    let w = words::all();
+pub fn run(rt: &HostRuntime) -> i32 {
+    fill_gaps(rt);
+    let w = words::all(rt);
     let s = w.scan;
     if s.fault != NOTHING {
-        return misused(s.fault, s.at);
+        return misused(rt, s.fault, s.at);
     }
     if w.missing != 0 {
-        return misused(NO_VALUE, w.missing);
+        return misused(rt, NO_VALUE, w.missing);
     }
     if s.help {
-        return help::page();
+        return help::page(rt);
     }
     if s.version {
-        return help::version();
+        return help::version(rt);
     }
     if s.names != 0 {
-        return misused(NOTHING, s.names);
+        return misused(rt, NOTHING, s.names);
     }
     if s.flat != 0 {
-        return misused(NOTHING, s.flat);
+        return misused(rt, NOTHING, s.flat);
     }
-    serve_by(w)
+    serve_by(rt, w)
 }

@@ -3,7 +3,7 @@ use check::same;
 use front::out::{Pen, WARD, flush, note, put, put_who};
 use front::rooms::{byte, note_room};
 use front::show::put_number;
-use libc::STDERR_FILENO;
+use std::io::IsTerminal;
 use std::num::{wrapping_add_u64, wrapping_sub_u64};
 
 // So many names are long work: after as many more the number is shown.
@@ -21,7 +21,7 @@ pub(crate) struct Tally {
     is_terminal: bool,
 }
 
-pub(crate) fn nothing() -> Tally {
+pub(crate) fn nothing(rt: &HostRuntime) -> Tally {
     Tally {
         names: 0,
         long: 0,
@@ -29,7 +29,7 @@ pub(crate) fn nothing() -> Tally {
         strange: 0,
         full: 0,
         shown: 0,
-        is_terminal: libc::isatty(STDERR_FILENO) == 1,
+        is_terminal: rt.stderr().is_terminal(),
     }
 }
 
@@ -71,7 +71,7 @@ pub(crate) fn with_line(t: Tally, line: &[u8]) -> Tally {
 }
 
 // How far it is, where someone watches and the work is long.
-pub(crate) fn show(t: Tally) -> Tally {
+pub(crate) fn show(rt: &HostRuntime, t: Tally) -> Tally {
     if !t.is_terminal {
         return t;
     }
@@ -79,7 +79,7 @@ pub(crate) fn show(t: Tally) -> Tally {
         return t;
     }
     let mut room = note_room();
-    let pen = put(&mut room, note(WARD), b"\r");
+    let pen = put(&mut room, note(rt, WARD), b"\r");
     let pen = put_who(&mut room, pen);
     let pen = put_number(&mut room, pen, t.names);
     let pen = put(&mut room, pen, b" names ...");
@@ -135,9 +135,9 @@ fn put_refused(out: &mut [u8], pen: Pen, t: Tally) -> Pen {
 }
 
 // The whole of it.
-pub(crate) fn tell(t: Tally) {
+pub(crate) fn tell(rt: &HostRuntime, t: Tally) {
     let mut room = note_room();
-    let pen = put_over(&mut room, note(WARD), t.shown);
+    let pen = put_over(&mut room, note(rt, WARD), t.shown);
     let pen = put_who(&mut room, pen);
     let pen = put_names(&mut room, pen, t.names);
     let pen = put_refused(&mut room, pen, t);

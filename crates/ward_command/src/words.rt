@@ -1,6 +1,6 @@
 // The arguments: those that all programs know, and `--bare`.
 use check::same;
-use front::options::Scan;
+use front::options::{Scan, arg_count, word};
 use front::rooms::part;
 
 // What `--bare` is: none of the kinds that all programs know.
@@ -25,16 +25,16 @@ pub(crate) fn none() -> Words {
 }
 
 // Whether the argument at a place is `--bare`.
-fn is_bare(i: usize) -> bool {
-    let mut word = io::buffer();
-    let n = os::arg(i, &mut word);
-    same(part(&word, 0, n), b"--bare")
+fn is_bare(rt: &HostRuntime, i: usize) -> bool {
+    let mut room = io::buffer();
+    let v = word(rt, i, &mut room);
+    same(part(&room, v.start, v.end), b"--bare")
 }
 
 // One argument more. Behind `--`, and where an option waits for a value, `--bare` is a word like any other.
-pub(crate) fn next(w: Words, i: usize) -> Words {
+pub(crate) fn next(rt: &HostRuntime, w: Words, i: usize) -> Words {
     let s = w.scan;
-    if !s.waits && s.end == 0 && is_bare(i) {
+    if !s.waits && s.end == 0 && is_bare(rt, i) {
         return Words {
             scan: s,
             bare: true,
@@ -42,7 +42,7 @@ pub(crate) fn next(w: Words, i: usize) -> Words {
             missing: 0,
         };
     }
-    let t = front::options::next(s, i);
+    let t = front::options::next(rt, s, i);
     Words {
         scan: t,
         bare: w.bare,
@@ -65,15 +65,15 @@ fn with_missing(w: Words, i: usize) -> Words {
 }
 
 // All arguments behind the program's name.
-pub(crate) fn all() -> Words {
+pub(crate) fn all(rt: &HostRuntime) -> Words {
     let mut w = none();
     let mut last: usize = 0;
-    let end = os::arg_count();
+    let end = arg_count(rt);
     if end <= 1 {
         return w;
     }
     for i in 1..end {
-        w = next(w, i);
+        w = next(rt, w, i);
         last = i;
     }
     with_missing(w, last)

@@ -1,6 +1,6 @@
 // Runs ward in the gate, whose programs have no status.
 #![tactic(auto)]
 
-fn main() {
-    ward_command::run();
+fn main(rt: HostRuntime) {
+    ward_command::run(&rt);
 }
