@@ -3,10 +3,11 @@ use super::grow::{Grown, from, grow, tell_unfit, worse};
 use super::kept::{keep_both, read_index, read_report, refuse};
 use super::pair::is_pair;
 use files::facts::Facts;
-use front::options::{OPERAND, Scan, next, none};
+use front::options::{OPERAND, Scan, arg_count, next, none};
 use front::out::{ANSWERED, DM, answers, flush, put};
 use front::rooms::part;
 use front::show::put_number;
+use std::rt::Env;
 
 // The two files are read and replaced: they are no input that must not be written over.
 fn no_input() -> Facts {
@@ -20,17 +21,24 @@ fn no_input() -> Facts {
 }
 
 // The name that an argument is. Of one that is longer than its room the front is refused for the same reason as the whole.
-fn grow_by(plate: &[u8], i: usize, index: &mut [u8], report: &mut [u8], g: Grown) -> Grown {
+fn grow_by(
+    rt: &HostRuntime,
+    plate: &[u8],
+    i: usize,
+    index: &mut [u8],
+    report: &mut [u8],
+    g: Grown,
+) -> Grown {
     let mut name = io::buffer();
-    let n = os::arg(i, &mut name);
-    if os::errno() != 0 {
-        return grow(plate, &name, index, report, g);
+    match rt.arg(i, &mut name) {
+        Ok(n) => grow(rt, plate, &name[..n], index, report, g),
+        Err(_) => grow(rt, plate, &name, index, report, g),
     }
-    grow(plate, part(&name, 0, n), index, report, g)
 }
 
 // What the argument at a place asks for, if it is a name: those from `first` on are.
 fn take_next(
+    rt: &HostRuntime,
     plate: &[u8],
     s: Scan,
     first: usize,
@@ -42,26 +50,33 @@ fn take_next(
     if g.is_unfit || s.kind != OPERAND || i < first {
         return g;
     }
-    grow_by(plate, i, index, report, g)
+    grow_by(rt, plate, i, index, report, g)
 }
 
-fn take_words(plate: &[u8], first: usize, index: &mut [u8], report: &mut [u8], g: Grown) -> Grown {
+fn take_words(
+    rt: &HostRuntime,
+    plate: &[u8],
+    first: usize,
+    index: &mut [u8],
+    report: &mut [u8],
+    g: Grown,
+) -> Grown {
     let mut s = none();
     let mut r = g;
-    let end = os::arg_count();
+    let end = arg_count(rt);
     if end <= 1 {
         return r;
     }
     for i in 1..end {
-        s = next(s, i);
-        r = take_next(plate, s, first, i, index, report, r);
+        s = next(rt, s, i);
+        r = take_next(rt, plate, s, first, i, index, report, r);
     }
     r
 }
 
 // The numbers of the records that were added, a line each.
-fn tell_numbers(out: &mut [u8], start: usize, end: usize) -> i32 {
-    let mut pen = answers(DM);
+fn tell_numbers(rt: &HostRuntime, out: &mut [u8], start: usize, end: usize) -> i32 {
+    let mut pen = answers(rt, DM);
     for k in start..end {
         pen = put_number(out, pen, k as u64);
         pen = put(out, pen, b"\n");
@@ -71,6 +86,7 @@ fn tell_numbers(out: &mut [u8], start: usize, end: usize) -> i32 {
 }
 
 fn keep_grown(
+    rt: &HostRuntime,
     index: &[u8],
     report: &[u8],
     out: &mut [u8],
@@ -80,11 +96,12 @@ fn keep_grown(
     g: Grown,
 ) -> i32 {
     if g.is_unfit {
-        return tell_unfit(path, g);
+        return tell_unfit(rt, path, g);
     }
     let used = g.used;
     let noted = g.noted;
     let status = keep_both(
+        rt,
         path,
         part(index, 0, used),
         beside,
@@ -94,10 +111,11 @@ fn keep_grown(
     if status != ANSWERED {
         return status;
     }
-    worse(g.status, tell_numbers(out, first, noted))
+    worse(g.status, tell_numbers(rt, out, first, noted))
 }
 
 fn add_to(
+    rt: &HostRuntime,
     plate: &[u8],
     index: &mut [u8],
     used: usize,
@@ -108,11 +126,12 @@ fn add_to(
     beside: &[u8],
     first: usize,
 ) -> i32 {
-    let g = take_words(plate, first, index, report, from(used, noted));
-    keep_grown(index, report, out, path, beside, noted, g)
+    let g = take_words(rt, plate, first, index, report, from(used, noted));
+    keep_grown(rt, index, report, out, path, beside, noted, g)
 }
 
 fn add_to_pair(
+    rt: &HostRuntime,
     plate: &[u8],
     index: &mut [u8],
     used: usize,
@@ -124,15 +143,19 @@ fn add_to_pair(
     first: usize,
 ) -> i32 {
     if is_pair(part(index, 0, used), report, noted) {
-        return add_to(plate, index, used, report, noted, out, path, beside, first);
+        return add_to(
+            rt, plate, index, used, report, noted, out, path, beside, first,
+        );
     }
     refuse(
+        rt,
         path,
         b"index and report do not belong together, or one is damaged: make them anew",
     )
 }
 
 fn add_with_report(
+    rt: &HostRuntime,
     plate: &[u8],
     index: &mut [u8],
     used: usize,
@@ -142,16 +165,17 @@ fn add_with_report(
     beside: &[u8],
     first: usize,
 ) -> i32 {
-    let read = read_report(beside, report);
+    let read = read_report(rt, beside, report);
     if read.status != ANSWERED {
         return read.status;
     }
     add_to_pair(
-        plate, index, used, report, read.count, out, path, beside, first,
+        rt, plate, index, used, report, read.count, out, path, beside, first,
     )
 }
 
 pub(crate) fn run(
+    rt: &HostRuntime,
     plate: &[u8],
     index: &mut [u8],
     report: &mut [u8],
@@ -160,9 +184,11 @@ pub(crate) fn run(
     beside: &[u8],
     first: usize,
 ) -> i32 {
-    let read = read_index(path, index);
+    let read = read_index(rt, path, index);
     if read.status != ANSWERED {
         return read.status;
     }
-    add_with_report(plate, index, read.count, report, out, path, beside, first)
+    add_with_report(
+        rt, plate, index, read.count, report, out, path, beside, first,
+    )
 }

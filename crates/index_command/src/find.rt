@@ -3,17 +3,17 @@ ghost use Rattle.std.specs.Prelude.{◌≤◌};
 
 use super::kept::{read_index, refuse};
 use super::lines::{Lines, line_room, next_line, none};
-use files::read::open;
+use files::read::{Source, open};
 use files::tell::tell_file;
-use front::options::{OPERAND, Scan, next};
+use front::options::{OPERAND, Scan, arg_count, next};
 use front::out::{ANSWERED, DM, FAULT, Pen, answers, flush, put, with_status};
 use front::rooms::{byte, part};
 use front::show::{put_name, put_number};
-use libc::STDIN_FILENO;
 use names::Way;
 use names::answer::answer;
 use names::lines::{name_start, without_cr};
 use std::num::wrapping_add_usize;
+use std::rt::Env;
 use zengilvar::code_index::dm_index_find;
 
 const UNFIT: u64 = 18;
@@ -140,12 +140,12 @@ fn take_next(
     several: bool,
     chunk: &mut [u8],
     line: &mut [u8],
-    fd: i32,
+    file: &Source,
     path: &[u8],
     k: u64,
 ) -> Course {
     let before = c.lines;
-    let l = next_line(fd, path, chunk, line, before);
+    let l = next_line(&c.pen.rt, file, path, chunk, line, before);
     let c = with_lines(c, l);
     if !l.is_line {
         return c;
@@ -168,7 +168,7 @@ fn take_lines(
     several: bool,
     chunk: &mut [u8],
     line: &mut [u8],
-    fd: i32,
+    file: &Source,
     path: &[u8],
 ) -> Course {
     let mut r = c;
@@ -177,7 +177,7 @@ fn take_lines(
             return r;
         }
         r = take_next(
-            out, r, found, name, several, chunk, line, fd, path, k as u64,
+            out, r, found, name, several, chunk, line, file, path, k as u64,
         );
     }
     r
@@ -193,7 +193,12 @@ fn ended(c: Course, found: &[u8], path: &[u8]) -> Pen {
     if c.at < found.len() {
         return with_status(
             pen,
-            tell_file(DM, path, b"there are fewer names than the index has"),
+            tell_file(
+                &pen.rt,
+                DM,
+                path,
+                b"there are fewer names than the index has",
+            ),
         );
     }
     pen
@@ -208,20 +213,18 @@ fn put_by_file(
     chunk: &mut [u8],
     path: &[u8],
 ) -> Pen {
-    let fd = open(DM, path);
-    if fd < 0 {
+    let Some(file) = open(&pen.rt, DM, path) else {
         return with_status(pen, FAULT);
-    }
+    };
     let mut line = line_room();
     let begin = Course {
         pen: pen,
         at: 0,
         lines: none(),
     };
-    let c = take_lines(out, begin, found, name, several, chunk, &mut line, fd, path);
-    if fd != STDIN_FILENO {
-        libc::close(fd);
-    }
+    let c = take_lines(
+        out, begin, found, name, several, chunk, &mut line, &file, path,
+    );
     ended(c, found, path)
 }
 
@@ -265,7 +268,10 @@ fn find_in(
     let mut found = records_room();
     let r = dm_index_find(plate, part(text, 0, used), name, &mut found);
     if r.number == UNFIT {
-        return with_status(pen, refuse(path, b"the index is damaged or no index"));
+        return with_status(
+            pen,
+            refuse(&pen.rt, path, b"the index is damaged or no index"),
+        );
     }
     if r.number != 0 {
         return refused(out, pen, plate, name);
@@ -284,7 +290,7 @@ fn find_name(
     name: &[u8],
     asked: Asked,
 ) -> Pen {
-    let read = read_index(path, text);
+    let read = read_index(&pen.rt, path, text);
     if read.status != ANSWERED {
         return with_status(pen, read.status);
     }
@@ -303,11 +309,10 @@ fn find_word(
     asked: Asked,
 ) -> Pen {
     let mut name = io::buffer();
-    let n = os::arg(i, &mut name);
-    if os::errno() != 0 {
-        return refused(out, pen, plate, &name);
+    match pen.rt.arg(i, &mut name) {
+        Ok(n) => find_name(out, pen, plate, text, path, names, &name[..n], asked),
+        Err(_) => refused(out, pen, plate, &name),
     }
-    find_name(out, pen, plate, text, path, names, part(&name, 0, n), asked)
 }
 
 // What the argument at a place asks for, if it is a name: those from `asked.first` on are.
@@ -339,20 +344,20 @@ fn find_words(
 ) -> Pen {
     let mut s = front::options::none();
     let mut said = pen;
-    let end = os::arg_count();
+    let end = arg_count(&pen.rt);
     if end <= 1 {
         return said;
     }
     for i in 1..end {
-        s = next(s, i);
+        s = next(&pen.rt, s, i);
         said = find_next(out, said, plate, text, path, names, s, i, asked);
     }
     said
 }
 
 // Whether the file is an index, asked once before the names: the empty name is refused by none.
-fn index_status(plate: &[u8], text: &mut [u8], path: &[u8]) -> i32 {
-    let read = read_index(path, text);
+fn index_status(rt: &HostRuntime, plate: &[u8], text: &mut [u8], path: &[u8]) -> i32 {
+    let read = read_index(rt, path, text);
     if read.status != ANSWERED {
         return read.status;
     }
@@ -360,12 +365,13 @@ fn index_status(plate: &[u8], text: &mut [u8], path: &[u8]) -> i32 {
     let mut found = records_room();
     let r = dm_index_find(plate, part(text, 0, used), b"", &mut found);
     if r.number != 0 {
-        return refuse(path, b"the index is damaged or no index");
+        return refuse(rt, path, b"the index is damaged or no index");
     }
     ANSWERED
 }
 
 pub(crate) fn run(
+    rt: &HostRuntime,
     plate: &[u8],
     text: &mut [u8],
     out: &mut [u8],
@@ -373,11 +379,11 @@ pub(crate) fn run(
     names: &[u8],
     asked: Asked,
 ) -> i32 {
-    let status = index_status(plate, text, path);
+    let status = index_status(rt, plate, text, path);
     if status != ANSWERED {
         return status;
     }
-    let pen = find_words(out, answers(DM), plate, text, path, names, asked);
+    let pen = find_words(out, answers(rt, DM), plate, text, path, names, asked);
     let pen = flush(out, pen);
     pen.status
 }

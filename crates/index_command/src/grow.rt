@@ -39,14 +39,14 @@ fn unfit(g: Grown) -> Grown {
 }
 
 // Tells of a name what `dm list` tells of it.
-fn tell(plate: &[u8], name: &[u8]) -> i32 {
+fn tell(rt: &HostRuntime, plate: &[u8], name: &[u8]) -> i32 {
     let mut room = note_room();
     let way = Way {
         all: true,
         named: true,
         shelf: false,
     };
-    let pen = answer(&mut room, answers(DM), plate, name, way);
+    let pen = answer(&mut room, answers(rt, DM), plate, name, way);
     pen.status
 }
 
@@ -59,14 +59,15 @@ pub(crate) fn worse(a: i32, b: i32) -> i32 {
 }
 
 // A name that list refuses is added too: it keeps its number, and is told.
-fn status_of(plate: &[u8], name: &[u8], report: &[u8], at: usize) -> i32 {
+fn status_of(rt: &HostRuntime, plate: &[u8], name: &[u8], report: &[u8], at: usize) -> i32 {
     if byte(report, at) == 0 {
         return ANSWERED;
     }
-    tell(plate, name)
+    tell(rt, plate, name)
 }
 
 pub(crate) fn grow(
+    rt: &HostRuntime,
     plate: &[u8],
     name: &[u8],
     index: &mut [u8],
@@ -81,20 +82,21 @@ pub(crate) fn grow(
         used: r.index_length as usize,
         noted: r.report_length as usize,
         is_unfit: false,
-        status: worse(g.status, status_of(plate, name, report, g.noted)),
+        status: worse(g.status, status_of(rt, plate, name, report, g.noted)),
     }
 }
 
 // Why a name was not added.
-pub(crate) fn tell_unfit(path: &[u8], g: Grown) -> i32 {
+pub(crate) fn tell_unfit(rt: &HostRuntime, path: &[u8], g: Grown) -> i32 {
     if NAMES_MOST <= g.noted {
-        return refuse(path, b"an index has at most 4,096 names");
+        return refuse(rt, path, b"an index has at most 4,096 names");
     }
     if NEARLY_FULL < g.used {
         return refuse(
+            rt,
             path,
             b"the index would have over 65,536 bytes; such an index is for the library alone",
         );
     }
-    refuse(path, b"the index is damaged or no index")
+    refuse(rt, path, b"the index is damaged or no index")
 }

@@ -1,8 +1,9 @@
 // The two files of an index: INDEX, and INDEX.report beside it.
 use check::same;
-use files::facts::{Facts, is_same, look};
+use files::facts::{Facts, is_same, look_at};
 use files::keep::keep;
 use files::read::read_path;
+use files::system::open_read;
 use files::tell::{put_path, tell_file};
 use front::options::tell_words;
 use front::out::{ANSWERED, DM, FAULT, REFUSED, flush, note, put, put_who};
@@ -19,8 +20,9 @@ const INDEX_MOST: usize = 65536;
 const REPORT_MOST: usize = 4096;
 
 // Two files cannot be read from one pipe, nor written to one.
-pub(crate) fn no_path() -> i32 {
+pub(crate) fn no_path(rt: &HostRuntime) -> i32 {
     tell_words(
+        rt,
         DM,
         b"INDEX is a path of a file, of at most 4,088 bytes, and not -",
         b"; dm help tells more\n",
@@ -48,9 +50,9 @@ pub(crate) fn beside(path: &[u8], end: usize, into: &mut [u8]) -> usize {
 }
 
 // Tells why an index, or names that were to be one, are refused.
-pub(crate) fn refuse(path: &[u8], words: &[u8]) -> i32 {
+pub(crate) fn refuse(rt: &HostRuntime, path: &[u8], words: &[u8]) -> i32 {
     let mut room = note_room();
-    let pen = put_who(&mut room, note(DM));
+    let pen = put_who(&mut room, note(rt, DM));
     let pen = put_path(&mut room, pen, path);
     let pen = put(&mut room, pen, b": ");
     let pen = put_refusal(&mut room, pen, UNFIT);
@@ -74,13 +76,13 @@ fn not_taken(status: i32) -> File {
     }
 }
 
-fn read_file(path: &[u8], into: &mut [u8], most: usize, words: &[u8]) -> File {
-    let got = read_path(DM, path, into);
+fn read_file(rt: &HostRuntime, path: &[u8], into: &mut [u8], most: usize, words: &[u8]) -> File {
+    let got = read_path(rt, DM, path, into);
     if !got.is_read {
         return not_taken(FAULT);
     }
     if most < got.count {
-        return not_taken(refuse(path, words));
+        return not_taken(refuse(rt, path, words));
     }
     File {
         count: got.count,
@@ -88,8 +90,9 @@ fn read_file(path: &[u8], into: &mut [u8], most: usize, words: &[u8]) -> File {
     }
 }
 
-pub(crate) fn read_index(path: &[u8], into: &mut [u8]) -> File {
+pub(crate) fn read_index(rt: &HostRuntime, path: &[u8], into: &mut [u8]) -> File {
     read_file(
+        rt,
         path,
         into,
         INDEX_MOST,
@@ -97,8 +100,9 @@ pub(crate) fn read_index(path: &[u8], into: &mut [u8]) -> File {
     )
 }
 
-pub(crate) fn read_report(path: &[u8], into: &mut [u8]) -> File {
+pub(crate) fn read_report(rt: &HostRuntime, path: &[u8], into: &mut [u8]) -> File {
     read_file(
+        rt,
         path,
         into,
         REPORT_MOST,
@@ -107,36 +111,35 @@ pub(crate) fn read_report(path: &[u8], into: &mut [u8]) -> File {
 }
 
 // Whether a path leads to the file that was read.
-fn is_input(path: &[u8], input: Facts) -> bool {
-    let fd = os::open_read(path);
-    if fd < 0 {
-        return false;
+fn is_input(rt: &HostRuntime, path: &[u8], input: Facts) -> bool {
+    match open_read(rt, path) {
+        Ok(file) => is_same(look_at(&file), input),
+        Err(_) => false,
     }
-    let is = look(fd);
-    libc::close(fd);
-    is_same(is, input)
 }
 
 // The index first and then the report, each replaced when it is whole. Where the run ends between the two, the next `add` tells: the index has a record that
 // the report does not have, which the library refuses, or index and report differ in who was refused (pair.rt). With the report first, a name that was
 // counted and has no entry would be found by nobody.
 pub(crate) fn keep_both(
+    rt: &HostRuntime,
     path: &[u8],
     index: &[u8],
     beside: &[u8],
     report: &[u8],
     input: Facts,
 ) -> i32 {
-    if is_input(beside, input) {
+    if is_input(rt, beside, input) {
         return tell_file(
+            rt,
             DM,
             beside,
             b"this is the file that is read, and is not written over",
         );
     }
-    let status = keep(DM, path, index, input);
+    let status = keep(rt, DM, path, index, input);
     if status != ANSWERED {
         return status;
     }
-    keep(DM, beside, report, input)
+    keep(rt, DM, beside, report, input)
 }

@@ -11,7 +11,9 @@ mod find; // find.rt: the records that share a code with a name
 
 use check::same;
 use files::tell::tell_path;
-use front::options::{NAMES, NOTHING, OPERAND, Scan, next, none, tell, tell_words, value, word};
+use front::options::{
+    NAMES, NOTHING, OPERAND, Scan, arg_count, next, none, tell, tell_words, value, why_not, word,
+};
 use front::out::{ANSWERED, DM};
 use front::rooms::part;
 use names::given::load;
@@ -36,12 +38,12 @@ fn command(word: &[u8]) -> u8 {
     0
 }
 
-fn misused(words: &[u8]) -> i32 {
-    tell_words(DM, words, b"; dm help tells more\n")
+fn misused(rt: &HostRuntime, words: &[u8]) -> i32 {
+    tell_words(rt, DM, words, b"; dm help tells more\n")
 }
 
-fn misplaced(i: usize) -> i32 {
-    tell(DM, NOTHING, i, b"; dm help tells more\n")
+fn misplaced(rt: &HostRuntime, i: usize) -> i32 {
+    tell(rt, DM, NOTHING, i, b"; dm help tells more\n")
 }
 
 // A report has a byte a name, and a byte more tells a longer file.
@@ -58,14 +60,14 @@ fn is_odd(t: Scan, s: Scan, i: usize, operands: bool) -> bool {
 }
 
 // The place of the first such argument, 0 where there is none.
-fn odd_place(s: Scan, operands: bool) -> usize {
+fn odd_place(rt: &HostRuntime, s: Scan, operands: bool) -> usize {
     let mut t = none();
-    let end = os::arg_count();
+    let end = arg_count(rt);
     if end <= 1 {
         return 0;
     }
     for i in 1..end {
-        t = next(t, i);
+        t = next(rt, t, i);
         if is_odd(t, s, i, operands) {
             return i;
         }
@@ -74,6 +76,7 @@ fn odd_place(s: Scan, operands: bool) -> usize {
 }
 
 fn make_words(
+    rt: &HostRuntime,
     s: Scan,
     plate: &[u8],
     text: &mut [u8],
@@ -82,19 +85,20 @@ fn make_words(
     beside: &mut [u8],
 ) -> i32 {
     let mut other = io::buffer();
-    let from = word(s.third, &mut other);
+    let from = word(rt, s.third, &mut other);
     if !from.is_whole {
-        return tell_path(DM, b"NAMES");
+        return tell_path(rt, DM, b"NAMES", why_not(from));
     }
-    let to = word(s.fourth, path);
+    let to = word(rt, s.fourth, path);
     let n = kept::beside(path, to.end, beside);
     if !to.is_whole || n == 0 {
-        return kept::no_path();
+        return kept::no_path(rt);
     }
     let mut report = report_room();
     let k = from.end;
     let m = to.end;
     make::run(
+        rt,
         plate,
         text,
         &mut report,
@@ -106,6 +110,7 @@ fn make_words(
 }
 
 fn add_words(
+    rt: &HostRuntime,
     s: Scan,
     plate: &[u8],
     text: &mut [u8],
@@ -113,14 +118,15 @@ fn add_words(
     path: &mut [u8],
     beside: &mut [u8],
 ) -> i32 {
-    let to = word(s.third, path);
+    let to = word(rt, s.third, path);
     let n = kept::beside(path, to.end, beside);
     if !to.is_whole || n == 0 {
-        return kept::no_path();
+        return kept::no_path(rt);
     }
     let mut report = report_room();
     let m = to.end;
     add::run(
+        rt,
         plate,
         text,
         &mut report,
@@ -131,16 +137,17 @@ fn add_words(
     )
 }
 
-fn asked(s: Scan) -> find::Asked {
+fn asked(rt: &HostRuntime, s: Scan) -> find::Asked {
     find::Asked {
         first: s.fourth,
-        several: odd_place(s, true) != 0,
+        several: odd_place(rt, s, true) != 0,
         shown: s.names != 0,
     }
 }
 
 // With the names of the file that --names names.
 fn find_named(
+    rt: &HostRuntime,
     s: Scan,
     plate: &[u8],
     text: &mut [u8],
@@ -148,20 +155,21 @@ fn find_named(
     path: &[u8],
     other: &mut [u8],
 ) -> i32 {
-    let named = value(s.names, other);
+    let named = value(rt, s.names, other);
     if !named.is_whole {
-        return tell_path(DM, b"--names");
+        return tell_path(rt, DM, b"--names", why_not(named));
     }
     let start = named.start;
     let end = named.end;
     let names = part(other, start, end);
     if same(names, b"-") {
-        return misused(b"the names of an index are a file, and not -");
+        return misused(rt, b"the names of an index are a file, and not -");
     }
-    find::run(plate, text, out, path, names, asked(s))
+    find::run(rt, plate, text, out, path, names, asked(rt, s))
 }
 
 fn find_by(
+    rt: &HostRuntime,
     s: Scan,
     plate: &[u8],
     text: &mut [u8],
@@ -170,15 +178,16 @@ fn find_by(
     other: &mut [u8],
 ) -> i32 {
     if same(path, b"-") {
-        return kept::no_path();
+        return kept::no_path(rt);
     }
     if s.names != 0 {
-        return find_named(s, plate, text, out, path, other);
+        return find_named(rt, s, plate, text, out, path, other);
     }
-    find::run(plate, text, out, path, b"", asked(s))
+    find::run(rt, plate, text, out, path, b"", asked(rt, s))
 }
 
 fn find_words(
+    rt: &HostRuntime,
     s: Scan,
     plate: &[u8],
     text: &mut [u8],
@@ -186,70 +195,87 @@ fn find_words(
     path: &mut [u8],
     other: &mut [u8],
 ) -> i32 {
-    let file = word(s.third, path);
+    let file = word(rt, s.third, path);
     if !file.is_whole {
-        return kept::no_path();
+        return kept::no_path(rt);
     }
     let n = file.end;
-    find_by(s, plate, text, out, part(path, 0, n), other)
+    find_by(rt, s, plate, text, out, part(path, 0, n), other)
 }
 
 // The paths of the two files, or of the index and the names, have one room each for all three.
-fn by_plate(which: u8, s: Scan, plate: &[u8], text: &mut [u8], out: &mut [u8]) -> i32 {
+fn by_plate(
+    rt: &HostRuntime,
+    which: u8,
+    s: Scan,
+    plate: &[u8],
+    text: &mut [u8],
+    out: &mut [u8],
+) -> i32 {
     let mut path = io::buffer();
     let mut beside = io::buffer();
     match which {
-        MAKE => make_words(s, plate, text, out, &mut path, &mut beside),
-        ADD => add_words(s, plate, text, out, &mut path, &mut beside),
-        _ => find_words(s, plate, text, out, &mut path, &mut beside),
+        MAKE => make_words(rt, s, plate, text, out, &mut path, &mut beside),
+        ADD => add_words(rt, s, plate, text, out, &mut path, &mut beside),
+        _ => find_words(rt, s, plate, text, out, &mut path, &mut beside),
     }
 }
 
-fn serve(which: u8, s: Scan, plate: &mut [u8], text: &mut [u8], out: &mut [u8]) -> i32 {
-    let given = load(DM, s.plate, plate);
+fn serve(
+    rt: &HostRuntime,
+    which: u8,
+    s: Scan,
+    plate: &mut [u8],
+    text: &mut [u8],
+    out: &mut [u8],
+) -> i32 {
+    let given = load(rt, DM, s.plate, plate);
     if given.status != ANSWERED {
         return given.status;
     }
     let n = given.count;
-    by_plate(which, s, part(plate, 0, n), text, out)
+    by_plate(rt, which, s, part(plate, 0, n), text, out)
 }
 
-fn which_at(i: usize) -> u8 {
+fn which_at(rt: &HostRuntime, i: usize) -> u8 {
     let mut name = io::buffer();
-    let w = word(i, &mut name);
+    let w = word(rt, i, &mut name);
     let n = w.end;
     command(part(&name, 0, n))
 }
 
 // What is wrong with the arguments of a command, as the place of one that it does not take.
-fn misplaced_for(which: u8, s: Scan) -> usize {
+fn misplaced_for(rt: &HostRuntime, which: u8, s: Scan) -> usize {
     if s.flat != 0 {
         return s.flat;
     }
     if which != FIND && s.names != 0 {
         return s.names;
     }
-    odd_place(s, which == MAKE)
+    odd_place(rt, s, which == MAKE)
 }
 
-fn too_few(which: u8) -> i32 {
+fn too_few(rt: &HostRuntime, which: u8) -> i32 {
     match which {
-        MAKE => misused(b"index make takes [--plate PLATE] NAMES INDEX"),
-        ADD => misused(b"index add takes [--plate PLATE] INDEX NAME..."),
-        FIND => misused(b"index find takes [--plate PLATE] [--names NAMES] INDEX NAME..."),
-        _ => misused(b"index takes make, add or find"),
+        MAKE => misused(rt, b"index make takes [--plate PLATE] NAMES INDEX"),
+        ADD => misused(rt, b"index add takes [--plate PLATE] INDEX NAME..."),
+        FIND => misused(
+            rt,
+            b"index find takes [--plate PLATE] [--names NAMES] INDEX NAME...",
+        ),
+        _ => misused(rt, b"index takes make, add or find"),
     }
 }
 
 // The status of the process. The rooms are those of dm: the index stands in that for a text.
-pub fn run(s: Scan, plate: &mut [u8], text: &mut [u8], out: &mut [u8]) -> i32 {
-    let which = which_at(s.second);
+pub fn run(rt: &HostRuntime, s: Scan, plate: &mut [u8], text: &mut [u8], out: &mut [u8]) -> i32 {
+    let which = which_at(rt, s.second);
     if which == 0 || s.fourth == 0 {
-        return too_few(which);
+        return too_few(rt, which);
     }
-    let odd = misplaced_for(which, s);
+    let odd = misplaced_for(rt, which, s);
     if odd != 0 {
-        return misplaced(odd);
+        return misplaced(rt, odd);
     }
-    serve(which, s, plate, text, out)
+    serve(rt, which, s, plate, text, out)
 }

@@ -1,4 +1,5 @@
 // The lines of a file, one after the other, each into a room of its own.
+use files::read::{Source, read_once};
 use files::tell::tell_path;
 use front::out::DM;
 use front::rooms::byte;
@@ -52,12 +53,11 @@ fn taken(l: Lines, at: usize, kept: usize, is_line: bool) -> Lines {
 
 // Takes what was read up to a newline, or all of it.
 fn take_some(chunk: &[u8], line: &mut [u8], l: Lines) -> Lines {
-    let end = l.end;
     let mut at = l.at;
     let mut kept = l.kept;
-    while at < end {
-        let b = byte(chunk, at);
-        at += 1;
+    for i in l.at..l.end {
+        let b = byte(chunk, i);
+        at = i + 1;
         if b == b'\n' {
             return taken(l, at, kept, true);
         }
@@ -67,42 +67,49 @@ fn take_some(chunk: &[u8], line: &mut [u8], l: Lines) -> Lines {
 }
 
 // Reads once. At the end a line is whole that has a byte, also without its newline.
-fn read_some(fd: i32, path: &[u8], chunk: &mut [u8], l: Lines) -> Lines {
-    let got = libc::read(fd, chunk);
-    if got < 0 {
-        tell_path(DM, path);
-    }
-    let n = io::count(got, chunk);
-    Lines {
-        at: 0,
-        end: n,
-        kept: l.kept,
-        is_line: got == 0 && l.kept != 0,
-        is_end: got <= 0,
-        is_broken: got < 0,
+fn read_some(rt: &HostRuntime, from: &Source, path: &[u8], chunk: &mut [u8], l: Lines) -> Lines {
+    match read_once(from, chunk) {
+        Ok(n) => Lines {
+            at: 0,
+            end: n,
+            kept: l.kept,
+            is_line: n == 0 && l.kept != 0,
+            is_end: n == 0,
+            is_broken: false,
+        },
+        Err(error) => {
+            tell_path(rt, DM, path, error);
+            Lines {
+                at: 0,
+                end: 0,
+                kept: l.kept,
+                is_line: false,
+                is_end: true,
+                is_broken: true,
+            }
+        }
     }
 }
 
-// The next line, where there is one. Nothing says that the input ends, so the turns are counted down from a number that no run uses up.
+// The next line, where there is one. Nothing says that the input ends, so the turns are counted up to a number that no run reaches.
 pub(crate) fn next_line(
-    fd: i32,
+    rt: &HostRuntime,
+    from: &Source,
     path: &[u8],
     chunk: &mut [u8],
     line: &mut [u8],
     l: Lines,
 ) -> Lines {
     let mut r = taken(l, l.at, 0, false);
-    let mut turns = u64::MAX;
-    while turns > 0 {
+    for _ in 0..u64::MAX {
         r = take_some(chunk, line, r);
         if r.is_line {
             return r;
         }
-        r = read_some(fd, path, chunk, r);
+        r = read_some(rt, from, path, chunk, r);
         if r.is_end {
             return r;
         }
-        turns -= 1;
     }
     r
 }

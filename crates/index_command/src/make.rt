@@ -4,20 +4,26 @@ use super::grow::{Grown, from, grow, tell_unfit, worse};
 use super::kept::keep_both;
 use super::lines::{Lines, line_room, next_line, none};
 use files::facts::look;
-use files::read::open;
+use files::read::{Source, open};
 use front::out::{DM, FAULT};
 use front::rooms::part;
-use libc::STDIN_FILENO;
 use names::lines::{name_start, without_cr};
 
 // One name more than an index has, so that it is refused and not passed over.
 const LINES_MOST: usize = 4097;
 
 // The name that a line is; that of the first may stand behind a byte order mark.
-fn grow_by(plate: &[u8], line: &[u8], index: &mut [u8], report: &mut [u8], g: Grown) -> Grown {
+fn grow_by(
+    rt: &HostRuntime,
+    plate: &[u8],
+    line: &[u8],
+    index: &mut [u8],
+    report: &mut [u8],
+    g: Grown,
+) -> Grown {
     let start = name_start(line, g.noted == 0);
     let end = without_cr(line);
-    grow(plate, part(line, start, end), index, report, g)
+    grow(rt, plate, part(line, start, end), index, report, g)
 }
 
 // How far it came, and whether the file was read to there.
@@ -28,51 +34,54 @@ struct Course {
 }
 
 fn take_lines(
+    rt: &HostRuntime,
     plate: &[u8],
     index: &mut [u8],
     report: &mut [u8],
     chunk: &mut [u8],
     line: &mut [u8],
-    fd: i32,
+    file: &Source,
     path: &[u8],
 ) -> Course {
     let mut l = none();
     let mut g = from(0, 0);
     for i in 0..LINES_MOST {
-        l = next_line(fd, path, chunk, line, l);
+        l = next_line(rt, file, path, chunk, line, l);
         if !l.is_line || g.is_unfit {
             return Course { grown: g, lines: l };
         }
         let n = l.kept;
-        g = grow_by(plate, part(line, 0, n), index, report, g);
+        g = grow_by(rt, plate, part(line, 0, n), index, report, g);
     }
     Course { grown: g, lines: l }
 }
 
 fn take_file(
+    rt: &HostRuntime,
     plate: &[u8],
     index: &mut [u8],
     report: &mut [u8],
     chunk: &mut [u8],
-    fd: i32,
+    file: &Source,
     from: &[u8],
     path: &[u8],
     beside: &[u8],
 ) -> i32 {
     let mut line = line_room();
-    let input = look(fd);
-    let c = take_lines(plate, index, report, chunk, &mut line, fd, from);
+    let input = look(rt, file);
+    let c = take_lines(rt, plate, index, report, chunk, &mut line, file, from);
     let g = c.grown;
     let l = c.lines;
     if l.is_broken {
         return FAULT;
     }
     if g.is_unfit {
-        return tell_unfit(from, g);
+        return tell_unfit(rt, from, g);
     }
     let used = g.used;
     let noted = g.noted;
     let status = keep_both(
+        rt,
         path,
         part(index, 0, used),
         beside,
@@ -83,6 +92,7 @@ fn take_file(
 }
 
 pub(crate) fn run(
+    rt: &HostRuntime,
     plate: &[u8],
     index: &mut [u8],
     report: &mut [u8],
@@ -91,13 +101,8 @@ pub(crate) fn run(
     path: &[u8],
     beside: &[u8],
 ) -> i32 {
-    let fd = open(DM, from);
-    if fd < 0 {
-        return FAULT;
+    match open(rt, DM, from) {
+        Some(file) => take_file(rt, plate, index, report, chunk, &file, from, path, beside),
+        None => FAULT,
     }
-    let status = take_file(plate, index, report, chunk, fd, from, path, beside);
-    if fd != STDIN_FILENO {
-        libc::close(fd);
-    }
-    status
 }
