@@ -1,28 +1,32 @@
 // list and encode: the names among the arguments, in files and on standard input.
 use super::{misplaced, misused};
 use check::same;
-use files::read::open;
+use files::read::{Source, open};
 use files::tell::tell_path;
-use front::options::{NAMES, OPERAND, Scan, next, none, value};
+use front::options::{NAMES, OPERAND, Scan, arg_count, next, none, value, why_not, word};
 use front::out::{ANSWERED, DM, FAULT, Pen, answers, flush, with_status};
 use front::rooms::part;
-use libc::STDIN_FILENO;
 use names::Way;
 use names::answer::answer;
 use names::given::load;
 use names::lines::{Input, answer_all};
+use std::io::Error;
+use std::rt::Env;
+
+// The system's number of a file that is not open.
+const EBADF: i32 = 9;
 
 fn code_input(
     out: &mut [u8],
     pen: Pen,
     plate: &[u8],
     chunk: &mut [u8],
-    fd: i32,
+    source: &Source,
     path: &[u8],
     way: Way,
 ) -> Pen {
     let from = Input {
-        fd: fd,
+        source: source,
         prompt: false,
     };
     answer_all(out, pen, plate, chunk, from, path, way)
@@ -36,21 +40,18 @@ fn code_path(
     path: &[u8],
     way: Way,
 ) -> Pen {
-    let fd = open(DM, path);
-    if fd < 0 {
-        return with_status(pen, FAULT);
+    match open(&pen.rt, DM, path) {
+        Some(source) => code_input(out, pen, plate, chunk, &source, path, way),
+        None => with_status(pen, FAULT),
     }
-    let pen = code_input(out, pen, plate, chunk, fd, path, way);
-    libc::close(fd);
-    pen
 }
 
 // The names of the file that the option at a place names.
 fn code_file(out: &mut [u8], pen: Pen, plate: &[u8], chunk: &mut [u8], i: usize, way: Way) -> Pen {
     let mut word = io::buffer();
-    let v = value(i, &mut word);
+    let v = value(&pen.rt, i, &mut word);
     if !v.is_whole {
-        return with_status(pen, tell_path(DM, b"--names"));
+        return with_status(pen, tell_path(&pen.rt, DM, b"--names", why_not(v)));
     }
     let start = v.start;
     let end = v.end;
@@ -67,7 +68,8 @@ fn code_word(
     way: Way,
 ) -> Pen {
     if is_dash && same(word, b"-") {
-        return code_input(out, pen, plate, chunk, STDIN_FILENO, b"-", way);
+        let source = Source::Standard(pen.rt.stdin());
+        return code_input(out, pen, plate, chunk, &source, b"-", way);
     }
     answer(out, pen, plate, word, way)
 }
@@ -83,12 +85,11 @@ fn code_argument(
     way: Way,
 ) -> Pen {
     let mut name = io::buffer();
-    let n = os::arg(i, &mut name);
-    if os::errno() != 0 {
+    match pen.rt.arg(i, &mut name) {
+        Ok(n) => code_word(out, pen, plate, chunk, &name[..n], is_dash, way),
         // It is longer than the buffer, and its front is refused for the same reason as the whole.
-        return answer(out, pen, plate, &name, way);
+        Err(_) => answer(out, pen, plate, &name, way),
     }
-    code_word(out, pen, plate, chunk, &name[..n], is_dash, way)
 }
 
 // What the argument at a place asks for, if it is a name or a file of names. The first operand is the command.
@@ -113,57 +114,116 @@ fn code_next(
     pen
 }
 
+// Whether the option at a place is `--names -`, which reads standard input to its end and is done with it.
+fn is_names_dash(rt: &HostRuntime, s: Scan, i: usize) -> bool {
+    if s.kind != NAMES {
+        return false;
+    }
+    let mut word = io::buffer();
+    let v = value(rt, i, &mut word);
+    same(part(&word, v.start, v.end), b"-")
+}
+
+// Whether the argument at a place is the name `-` in front of `--`.
+fn is_name_dash(rt: &HostRuntime, s: Scan, i: usize) -> bool {
+    if s.kind != OPERAND || s.end != 0 {
+        return false;
+    }
+    let mut name = io::buffer();
+    let v = word(rt, i, &mut name);
+    i != s.first && same(part(&name, v.start, v.end), b"-")
+}
+
+// Standard input that is asked for once more, behind a `--names -`: a fault, told behind all that was answered before.
+fn code_again(out: &mut [u8], pen: Pen) -> Pen {
+    if pen.status == FAULT {
+        return pen;
+    }
+    let pen = flush(out, pen);
+    if pen.broken {
+        return pen;
+    }
+    let error = Error::from_raw_os_error(EBADF);
+    with_status(pen, tell_path(&pen.rt, DM, b"-", error))
+}
+
+// The same as code_next, where standard input may be done with.
+fn code_once(
+    out: &mut [u8],
+    pen: Pen,
+    plate: &[u8],
+    chunk: &mut [u8],
+    s: Scan,
+    i: usize,
+    way: Way,
+    is_done: bool,
+) -> Pen {
+    if is_done && (is_names_dash(&pen.rt, s, i) || is_name_dash(&pen.rt, s, i)) {
+        return code_again(out, pen);
+    }
+    code_next(out, pen, plate, chunk, s, i, way)
+}
+
 fn code_arguments(out: &mut [u8], pen: Pen, plate: &[u8], chunk: &mut [u8], way: Way) -> Pen {
     let mut s = none();
     let mut said = pen;
-    let end = os::arg_count();
+    let mut is_done = false;
+    let end = arg_count(&pen.rt);
     if end <= 1 {
         return said;
     }
     for i in 1..end {
-        s = next(s, i);
-        said = code_next(out, said, plate, chunk, s, i, way);
+        s = next(&pen.rt, s, i);
+        said = code_once(out, said, plate, chunk, s, i, way, is_done);
+        is_done = is_done || is_names_dash(&pen.rt, s, i);
     }
     said
 }
 
-fn code_by(plate: &[u8], text: &mut [u8], out: &mut [u8], way: Way) -> i32 {
-    let pen = code_arguments(out, answers(DM), plate, text, way);
+fn code_by(rt: &HostRuntime, plate: &[u8], text: &mut [u8], out: &mut [u8], way: Way) -> i32 {
+    let pen = code_arguments(out, answers(rt, DM), plate, text, way);
     let pen = flush(out, pen);
     pen.status
 }
 
 // Whether the first name is `-`, in front of `--`, and so standard input.
-fn is_dash(s: Scan) -> bool {
+fn is_dash(rt: &HostRuntime, s: Scan) -> bool {
     if s.end != 0 && s.end < s.second {
         return false;
     }
-    let mut word = io::buffer();
-    let n = os::arg(s.second, &mut word);
-    same(part(&word, 0, n), b"-")
+    let mut name = io::buffer();
+    let v = word(rt, s.second, &mut name);
+    same(part(&name, v.start, v.end), b"-")
 }
 
 // One word alone gives its codes alone.
-fn is_one_word(s: Scan) -> bool {
-    s.names == 0 && s.third == 0 && !is_dash(s)
+fn is_one_word(rt: &HostRuntime, s: Scan) -> bool {
+    s.names == 0 && s.third == 0 && !is_dash(rt, s)
 }
 
-pub(crate) fn run(s: Scan, all: bool, plate: &mut [u8], text: &mut [u8], out: &mut [u8]) -> i32 {
+pub(crate) fn run(
+    rt: &HostRuntime,
+    s: Scan,
+    all: bool,
+    plate: &mut [u8],
+    text: &mut [u8],
+    out: &mut [u8],
+) -> i32 {
     if s.flat != 0 {
-        return misplaced(s.flat);
+        return misplaced(rt, s.flat);
     }
     if s.second == 0 && s.names == 0 {
-        return misused(b"no name is given");
+        return misused(rt, b"no name is given");
     }
-    let given = load(DM, s.plate, plate);
+    let given = load(rt, DM, s.plate, plate);
     if given.status != ANSWERED {
         return given.status;
     }
     let way = Way {
         all: all,
-        named: !is_one_word(s),
+        named: !is_one_word(rt, s),
         shelf: false,
     };
     let n = given.count;
-    code_by(part(plate, 0, n), text, out, way)
+    code_by(rt, part(plate, 0, n), text, out, way)
 }

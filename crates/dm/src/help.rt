@@ -38,16 +38,16 @@ fn put_version(out: &mut [u8], pen: Pen) -> Pen {
     put(out, pen, b"dm (Zengilvar) 0.1.0\n")
 }
 
-pub(crate) fn page() -> i32 {
+pub(crate) fn page(rt: &HostRuntime) -> i32 {
     let mut out = note_room();
-    let pen = put_page(&mut out, answers(DM));
+    let pen = put_page(&mut out, answers(rt, DM));
     let pen = flush(&out, pen);
     pen.status
 }
 
-pub(crate) fn version() -> i32 {
+pub(crate) fn version(rt: &HostRuntime) -> i32 {
     let mut out = note_room();
-    let pen = put_version(&mut out, answers(DM));
+    let pen = put_version(&mut out, answers(rt, DM));
     let pen = flush(&out, pen);
     pen.status
 }

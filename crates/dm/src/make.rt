@@ -4,7 +4,7 @@ use files::facts::{Facts, look};
 use files::keep::keep;
 use files::read::{open, read, read_path};
 use files::tell::tell_path;
-use front::options::{Scan, word};
+use front::options::{Scan, why_not, word};
 use front::out::{DM, FAULT};
 use front::rooms::part;
 use review::met::review_text;
@@ -12,6 +12,7 @@ use review::told::text_refused;
 use zengilvar::dm_build;
 
 fn build_text(
+    rt: &HostRuntime,
     rules: &[u8],
     text: &[u8],
     input: Facts,
@@ -21,41 +22,48 @@ fn build_text(
 ) -> i32 {
     let r = dm_build(text, folding, plate);
     if r.number != 0 {
-        return text_refused(rules, text, r);
+        return text_refused(rt, rules, text, r);
     }
     let n = r.length as usize;
-    keep(DM, path, part(plate, 0, n), input)
+    keep(rt, DM, path, part(plate, 0, n), input)
 }
 
-fn build_file(rules: &[u8], path: &[u8], folding: bool, plate: &mut [u8], text: &mut [u8]) -> i32 {
-    let fd = open(DM, rules);
-    if fd < 0 {
+fn build_file(
+    rt: &HostRuntime,
+    rules: &[u8],
+    path: &[u8],
+    folding: bool,
+    plate: &mut [u8],
+    text: &mut [u8],
+) -> i32 {
+    let Some(from) = open(rt, DM, rules) else {
         return FAULT;
-    }
-    let got = read(DM, rules, fd, text);
-    let input = look(fd);
-    libc::close(fd);
+    };
+    let got = read(rt, DM, rules, &from, text);
+    let input = look(rt, &from);
+    drop(from);
     if !got.is_read {
         return FAULT;
     }
     let n = got.count;
-    build_text(rules, part(text, 0, n), input, path, folding, plate)
+    build_text(rt, rules, part(text, 0, n), input, path, folding, plate)
 }
 
-fn build_words(s: Scan, plate: &mut [u8], text: &mut [u8]) -> i32 {
+fn build_words(rt: &HostRuntime, s: Scan, plate: &mut [u8], text: &mut [u8]) -> i32 {
     let mut rules = io::buffer();
-    let r = word(s.second, &mut rules);
+    let r = word(rt, s.second, &mut rules);
     if !r.is_whole {
-        return tell_path(DM, b"RULES");
+        return tell_path(rt, DM, b"RULES", why_not(r));
     }
     let mut path = io::buffer();
-    let p = word(s.third, &mut path);
+    let p = word(rt, s.third, &mut path);
     if !p.is_whole {
-        return tell_path(DM, b"PLATE");
+        return tell_path(rt, DM, b"PLATE", why_not(p));
     }
     let n = r.end;
     let m = p.end;
     build_file(
+        rt,
         part(&rules, 0, n),
         part(&path, 0, m),
         s.flat == 0,
@@ -64,57 +72,71 @@ fn build_words(s: Scan, plate: &mut [u8], text: &mut [u8]) -> i32 {
     )
 }
 
-pub(crate) fn build(s: Scan, plate: &mut [u8], text: &mut [u8]) -> i32 {
+pub(crate) fn build(rt: &HostRuntime, s: Scan, plate: &mut [u8], text: &mut [u8]) -> i32 {
     if s.plate != 0 {
-        return misplaced(s.plate);
+        return misplaced(rt, s.plate);
     }
     if s.names != 0 {
-        return misplaced(s.names);
+        return misplaced(rt, s.names);
     }
     if s.third == 0 || s.fourth != 0 {
-        return misused(b"build takes RULES PLATE [--no-folding]");
+        return misused(rt, b"build takes RULES PLATE [--no-folding]");
     }
-    build_words(s, plate, text)
+    build_words(rt, s, plate, text)
 }
 
-fn check_text(path: &[u8], text: &[u8], folding: bool, plate: &mut [u8], out: &mut [u8]) -> i32 {
+fn check_text(
+    rt: &HostRuntime,
+    path: &[u8],
+    text: &[u8],
+    folding: bool,
+    plate: &mut [u8],
+    out: &mut [u8],
+) -> i32 {
     let r = dm_build(text, folding, plate);
     if r.number != 0 {
-        return text_refused(path, text, r);
+        return text_refused(rt, path, text, r);
     }
-    review_text(out, path, text, folding, r.length)
+    review_text(rt, out, path, text, folding, r.length)
 }
 
 fn check_path(
+    rt: &HostRuntime,
     path: &[u8],
     folding: bool,
     plate: &mut [u8],
     text: &mut [u8],
     out: &mut [u8],
 ) -> i32 {
-    let got = read_path(DM, path, text);
+    let got = read_path(rt, DM, path, text);
     if !got.is_read {
         return FAULT;
     }
     let n = got.count;
-    check_text(path, part(text, 0, n), folding, plate, out)
+    check_text(rt, path, part(text, 0, n), folding, plate, out)
 }
 
-pub(crate) fn check(s: Scan, plate: &mut [u8], text: &mut [u8], out: &mut [u8]) -> i32 {
+pub(crate) fn check(
+    rt: &HostRuntime,
+    s: Scan,
+    plate: &mut [u8],
+    text: &mut [u8],
+    out: &mut [u8],
+) -> i32 {
     if s.plate != 0 {
-        return misplaced(s.plate);
+        return misplaced(rt, s.plate);
     }
     if s.names != 0 {
-        return misplaced(s.names);
+        return misplaced(rt, s.names);
     }
     if s.second == 0 || s.third != 0 {
-        return misused(b"check takes RULES [--no-folding]");
+        return misused(rt, b"check takes RULES [--no-folding]");
     }
     let mut path = io::buffer();
-    let w = word(s.second, &mut path);
+    let w = word(rt, s.second, &mut path);
     if !w.is_whole {
-        return tell_path(DM, b"RULES");
+        return tell_path(rt, DM, b"RULES", why_not(w));
     }
     let n = w.end;
-    check_path(part(&path, 0, n), s.flat == 0, plate, text, out)
+    check_path(rt, part(&path, 0, n), s.flat == 0, plate, text, out)
 }

@@ -1,6 +1,6 @@
 // Runs dm in the gate, whose programs have no status.
 #![tactic(auto)]
 
-fn main() {
-    dm::run();
+fn main(rt: HostRuntime) {
+    dm::run(&rt);
 }

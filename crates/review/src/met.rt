@@ -322,14 +322,21 @@ fn with_pen(t: Tally, pen: Pen) -> Tally {
 }
 
 // Without folding no folding is ever used, and none is told of. Answers the status.
-pub fn review_text(out: &mut [u8], path: &[u8], text: &[u8], folding: bool, bytes: u64) -> i32 {
+pub fn review_text(
+    rt: &HostRuntime,
+    out: &mut [u8],
+    path: &[u8],
+    text: &[u8],
+    folding: bool,
+    bytes: u64,
+) -> i32 {
     let mut folds = room();
     collect(text, folding, &mut folds);
     let t = Tally {
         rules: 0,
         foldings: 0,
         warnings: 0,
-        pen: answers(DM),
+        pen: answers(rt, DM),
     };
     let t = review_items(out, t, path, text, &folds);
     let pen = put_sum(out, t, path, bytes);

@@ -71,9 +71,9 @@ pub(crate) fn put_spot(out: &mut [u8], pen: Pen, path: &[u8], text: &[u8], at: u
     put(out, pen, b": ")
 }
 
-fn tell_line(path: &[u8], text: &[u8], at: usize, number: u64) {
+fn tell_line(rt: &HostRuntime, path: &[u8], text: &[u8], at: usize, number: u64) {
     let mut room = note_room();
-    let pen = put_who(&mut room, note(DM));
+    let pen = put_who(&mut room, note(rt, DM));
     let pen = put_spot(&mut room, pen, path, text, at);
     let pen = put_words(&mut room, pen, number);
     let line = part(text, line_start(text, at), line_end(text, at));
@@ -81,9 +81,9 @@ fn tell_line(path: &[u8], text: &[u8], at: usize, number: u64) {
     flush(&room, pen);
 }
 
-fn tell_whole(path: &[u8], number: u64) {
+fn tell_whole(rt: &HostRuntime, path: &[u8], number: u64) {
     let mut room = note_room();
-    let pen = put_who(&mut room, note(DM));
+    let pen = put_who(&mut room, note(rt, DM));
     let pen = put_path(&mut room, pen, path);
     let pen = put(&mut room, pen, b": ");
     let pen = put_words(&mut room, pen, number);
@@ -91,11 +91,11 @@ fn tell_whole(path: &[u8], number: u64) {
 }
 
 // Tells why a text was refused: file, line, number and words, the line itself, and for 3 what was found.
-pub fn text_refused(path: &[u8], text: &[u8], r: DmBuilt) -> i32 {
+pub fn text_refused(rt: &HostRuntime, path: &[u8], text: &[u8], r: DmBuilt) -> i32 {
     if r.number == 1 || r.number == 9 {
-        tell_whole(path, r.number);
+        tell_whole(rt, path, r.number);
         return REFUSED;
     }
-    tell_line(path, text, fault_place(text, r), r.number);
+    tell_line(rt, path, text, fault_place(text, r), r.number);
     REFUSED
 }
