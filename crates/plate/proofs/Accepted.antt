@@ -474,7 +474,7 @@ module _ (s : List ℕ) (at : ℕ) where
   pub filled_is : (at + 7) / 8 ≡ length s → (v : ℕ) → v ≡ number_at s at (7 - (at + 7) % 8) → eqb v 0 ≡ zero_filled s at
   filled_is h v e = ap (λ (n : ℕ). eqb n 0) e ∙ sym (and_holds _ (eqb (number_at s at (7 - (at + 7) % 8)) 0) (eq-eqb _ _ h))
 
--- Seven tests, as `acceptedIn` joins them.
+-- Seven tests, as `accepted_in` joins them.
 module _ (a b c d f g z : Bool) where
   abbrev plate_tests : Bool
   plate_tests = (c && d) && (f && g)

@@ -1,4 +1,4 @@
--- What is known of an accepted plate: each of its rules is good and stands where the one before ends, and the keys of its foldings rise. `acceptedIn`
+-- What is known of an accepted plate: each of its rules is good and stands where the one before ends, and the keys of its foldings rise. `accepted_in`
 -- says so of the plate's lists; a rule's place stays small because there are few rules, and a good rule has few bits. Assumes nothing.
 use Rattle.std.proofs.Common.{◌≡◌, ℕ, zero, suc, ◌+◌, ◌*◌, ◌<◌, ◌≤◌, Bool, true, cond, ◌&&◌, eqb, leb, List, length, sym, ap, ◌∙◌, subst, arith, eq-eqb, ne_eqb, le-leb, leb-true}
 use borrow.Author.Tests.{lt-leb}

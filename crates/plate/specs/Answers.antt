@@ -93,7 +93,7 @@ abbrev pub SeenTo : Seen → ℕ → Type 0
 SeenTo (Good c n at) most = at ≤ most
 SeenTo Wrong most = 0 ≤ most
 
--- `mayPrecede`, by the first code points and the byte lengths
+-- `may_precede`, by the first code points and the byte lengths
 abbrev pub in_order : ℕ → ℕ → ℕ → ℕ → Bool
 in_order c n c2 n2 = nat_lt c c2 || (c == c2 && nat_le n2 n)
 

@@ -1,6 +1,6 @@
 -- Which bytes are a plate, and what it says. 01, "The plate is read by a bit reader over the lent bytes. A plate is accepted exactly if [..]".
--- Reading never fails: past the end every bit is 0. What was read is judged afterwards, and `zeroFilled` refuses what ran past the end, stopped short or
--- left fill. That these are exactly the bytes of good plates is proved: proofs/Round.antt, plate-reads and plate-exact. Assumes nothing.
+-- Reading never fails: past the end every bit is 0. What was read is judged afterwards, and `zero_filled` refuses what ran past the end, stopped short or
+-- left fill. That these are exactly the bytes of good plates is proved: proofs/Round.antt, plate_reads and plate_exact. Assumes nothing.
 use Rattle.std.specs.Prelude.{ℕ, zero, suc, ◌+◌, ◌-◌, ◌*◌, ◌/◌, ◌%◌, Bool, cond, ◌&&◌, List, [], ◌∷◌, length, ◌==◌}
 use Rattle.std.proofs.Math.Option.{Option, none, some}
 use Rattle.plate.specs.Bits.{number_at}

@@ -1,5 +1,5 @@
 -- `branches::once_each` meets its contract. The loop over the branches keeps: the codes left, merged behind those kept, are all of them once. A turn is
--- Codes.code-dropped or Codes.code-kept. The loop over those kept keeps: the code is among those from here on exactly if it is among all. Assumes nothing.
+-- Codes.code_dropped or Codes.code_kept. The loop over those kept keeps: the code is among those from here on exactly if it is among all. Assumes nothing.
 use Prim.Native.Nat.{ℕ, ◌-◌, ◌≤◌}
 use mathlib.Core.Path.{◌≡◌}
 use mathlib.Core.List.{List, map}

@@ -1,4 +1,4 @@
--- `note::measure_field` meets its contract: `parse_branch` says fault or count, and the bits follow from the count (Measures.field-fine). Assumes nothing.
+-- `note::measure_field` meets its contract: `parse_branch` says fault or count, and the bits follow from the count (Measures.field_fine). Assumes nothing.
 use Prim.Native.Nat.{ℕ, ◌+◌, ◌-◌, ◌≤◌}
 use mathlib.Core.List.{List}
 use native.Mathlib.Omega.{arith}

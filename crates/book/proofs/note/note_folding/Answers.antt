@@ -1,4 +1,4 @@
--- `note::note_folding` meets its contract: it answers what `put_folding` tells (Noting.put-now, put_full). Assumes nothing.
+-- `note::note_folding` meets its contract: it answers what `put_folding` tells (Noting.put_now, put_full). Assumes nothing.
 use Rattle.book.proofs.Noting.{put_now, put_full}
 use Rattle.book.proofs.note.note_folding.Goals as goal
 

@@ -1,4 +1,4 @@
--- `pen::put` meets its contract. The loop keeps the bits that stand written and held; a turn moves a whole byte from the pen to the buffer (Inks.byte-turn). Assumes nothing.
+-- `pen::put` meets its contract. The loop keeps the bits that stand written and held; a turn moves a whole byte from the pen to the buffer (Inks.byte_turn). Assumes nothing.
 use Prim.Native.Nat.{◌+◌, ◌*◌, ◌^◌, ◌<◌, ◌≤◌}
 use mathlib.Core.Path.{◌≡◌}
 use mathlib.Core.List.{◌++◌}

@@ -1,4 +1,4 @@
--- `seen::hash_of` meets its contract. The loop keeps: the hash from here on is the hash of all (Hashes.hash-turn). Assumes nothing.
+-- `seen::hash_of` meets its contract. The loop keeps: the hash from here on is the hash of all (Hashes.hash_turn). Assumes nothing.
 use Prim.Native.Nat.{◌-◌, ◌<◌, ◌≤◌}
 use mathlib.Core.Path.{◌≡◌}
 use lib.ListN.{length, drop}

@@ -1,4 +1,4 @@
--- `seen::mark` meets its contract, by its two arms (Hashes.mark-first, mark-several). Assumes nothing.
+-- `seen::mark` meets its contract, by its two arms (Hashes.mark_first, mark_several). Assumes nothing.
 use Rattle.book.proofs.Hashes.{mark_first, mark_several}
 use Rattle.book.proofs.seen.mark.Goals as goal
 

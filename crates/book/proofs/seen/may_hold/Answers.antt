@@ -1,4 +1,4 @@
--- `seen::may_hold` meets its contract, by its two arms (Hashes.hold-own, hold-other). Assumes nothing.
+-- `seen::may_hold` meets its contract, by its two arms (Hashes.hold_own, hold_other). Assumes nothing.
 use Rattle.book.proofs.Hashes.{hold_own, hold_other}
 use Rattle.book.proofs.seen.may_hold.Goals as goal
 

@@ -1,4 +1,4 @@
--- `write::put_counts` meets its contract: five numbers, one behind the other (Scripts.ready-number to wrote-head). Assumes nothing.
+-- `write::put_counts` meets its contract: five numbers, one behind the other (Scripts.ready_number to wrote-head). Assumes nothing.
 use Prim.Native.Nat.{◌-◌}
 use mathlib.Core.Path.{sym, ap}
 use native.Mathlib.Nat.{lt_of_le_of_lt}

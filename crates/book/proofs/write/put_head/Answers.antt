@@ -1,4 +1,4 @@
--- `write::put_head` meets its contract: plate tells the head of so many rules (Scripts.told-head). Assumes nothing.
+-- `write::put_head` meets its contract: plate tells the head of so many rules (Scripts.told_head). Assumes nothing.
 use mathlib.Core.Path.{sym}
 use Rattle.book.proofs.Inks.{ready_as, wrote_as}
 use Rattle.book.proofs.Scripts.{told_head}

@@ -1,4 +1,4 @@
--- `write::put_pairs` meets its contract. The loop keeps: the first k foldings are written (Inks.first-turn). Assumes nothing.
+-- `write::put_pairs` meets its contract. The loop keeps: the first k foldings are written (Inks.first_turn). Assumes nothing.
 use Prim.Native.Nat.{◌-◌, ◌≤◌}
 use lib.ListN.{take}
 use Rattle.laws.specs.Lists.{cat}

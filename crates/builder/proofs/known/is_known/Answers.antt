@@ -1,4 +1,4 @@
--- `known::is_known` meets its contract: a pattern whose hash was not met is none of those noted (Doubles.none-met). Assumes nothing.
+-- `known::is_known` meets its contract: a pattern whose hash was not met is none of those noted (Doubles.none_met). Assumes nothing.
 use mathlib.Core.Path.{sym, ◌∙◌, ap}
 use lib.ListN.{length, take}
 use Rattle.book.specs.Seen.{may_hold}

@@ -1,4 +1,4 @@
--- `survey::enter` meets its contract. Each form of an item is one turn (Turns: rule-turn, folding-turn, line-end-turn, comment-turn, unknown-turn). Assumes nothing.
+-- `survey::enter` meets its contract. Each form of an item is one turn (Turns: rule-turn, folding-turn, line_end_turn, comment_turn, unknown_turn). Assumes nothing.
 use mathlib.Core.Path.{sym, subst}
 use mathlib.Core.List.{List}
 use Prim.Native.Nat.{ℕ}

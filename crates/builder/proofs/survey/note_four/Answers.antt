@@ -1,4 +1,4 @@
--- `survey::note_four` meets its contract: the rule of the four parts, as they are lent (Again.lent-rule), left out where its pattern is known. Assumes nothing.
+-- `survey::note_four` meets its contract: the rule of the four parts, as they are lent (Again.lent_rule), left out where its pattern is known. Assumes nothing.
 use mathlib.Core.Path.{◌≡◌, subst}
 use native.Mathlib.Omega.{arith}
 use lib.ListN.{length, take}

@@ -1,4 +1,4 @@
--- `write::put_four` meets its contract: the rule of the four parts, as they are lent (Again.lent-rule). Assumes nothing.
+-- `write::put_four` meets its contract: the rule of the four parts, as they are lent (Again.lent_rule). Assumes nothing.
 use mathlib.Core.Path.{◌≡◌, sym, ap, subst}
 use Rattle.plate.specs.Plate.{Rule}
 use Rattle.plate.specs.Written.{rule_bits}

@@ -1,4 +1,4 @@
--- `write::put_rules` meets its contract. The loop keeps: the rules of the first k keys are written (Inks.first-turn). Assumes nothing.
+-- `write::put_rules` meets its contract. The loop keeps: the rules of the first k keys are written (Inks.first_turn). Assumes nothing.
 use Prim.Native.Nat.{◌<◌, ◌≤◌}
 use mathlib.Core.Path.{sym, subst}
 use native.Mathlib.Omega.{arith}

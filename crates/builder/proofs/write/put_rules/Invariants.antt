@@ -1,4 +1,4 @@
--- `write::put_rules` meets its contract. The loop keeps: the rules of the first k keys are written (Inks.first-turn). Assumes nothing.
+-- `write::put_rules` meets its contract. The loop keeps: the rules of the first k keys are written (Inks.first_turn). Assumes nothing.
 use Prim.Native.Nat.{ℕ, ◌-◌, ◌≤◌}
 use mathlib.Core.List.{List}
 use lib.ListN.{take}

@@ -1,4 +1,4 @@
--- `plate::accept::accept_fields` meets its contract: each field begins where the one before ends (Accepted.three-1 to three-4). Assumes nothing.
+-- `plate::accept::accept_fields` meets its contract: each field begins where the one before ends (Accepted.three_1 to three-4). Assumes nothing.
 use Rattle.std.proofs.Common.{arith}
 use Rattle.plate.specs.Plate.{good_field}
 use Rattle.plate.specs.Read.{field_at, field_end}

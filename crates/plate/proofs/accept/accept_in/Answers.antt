@@ -1,5 +1,5 @@
--- `plate::accept::accept_in` meets its contract: the tests of `acceptedIn` are made one by one, and any that fails decides
--- (Accepted.accept-number to accept-end); what accept_rules has noted is noted of the plate. Assumes nothing.
+-- `plate::accept::accept_in` meets its contract: the tests of `accepted_in` are made one by one, and any that fails decides
+-- (Accepted.accept_number to accept-end); what accept_rules has noted is noted of the plate. Assumes nothing.
 use Rattle.std.proofs.Common.{arith}
 use Rattle.plate.proofs.Accepted.{accept_number, accept_reserved, accept_few_rules, accept_many_rules, accept_many_foldings, accept_bad_folding, accept-bad-rule, accept-end}
 use Rattle.plate.proofs.Noting.{noted_all, noted_if}

@@ -1,4 +1,4 @@
--- `plate::accept::accept_noting` meets its contract: the first byte tells the edition (Facts.tells-2, tells-1), and accept_in answers for it. Assumes nothing.
+-- `plate::accept::accept_noting` meets its contract: the first byte tells the edition (Facts.tells_2, tells_1), and accept_in answers for it. Assumes nothing.
 use Rattle.std.proofs.Common.{◌≤◌, length, subst, arith}
 use Rattle.plate.specs.Plate.{Edition, edition1, edition2}
 use Rattle.plate.proofs.Facts.{tells_1, tells_2}

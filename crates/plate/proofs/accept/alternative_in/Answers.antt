@@ -1,5 +1,5 @@
 -- `plate::accept::alternative_in` meets its contract: the count is at most 6 or refused, and the digits stand behind it in the window
--- (Accepted.digits-at). Assumes nothing.
+-- (Accepted.digits_at_lem). Assumes nothing.
 use Rattle.std.proofs.Common.{◌≡◌, ℕ, ◌+◌, ◌*◌, Bool, true, false, List, ap, ◌∙◌, add-zero, arith}
 use Rattle.plate.specs.Most.{alternative_most}
 use Rattle.plate.proofs.Accepted.{alternative_over, by_digits}

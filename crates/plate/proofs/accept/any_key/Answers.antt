@@ -1,4 +1,4 @@
--- `plate::accept::any_key` meets its contract: the folding is good, and its key is read again, or it is not (Accepted.key-is). Assumes nothing.
+-- `plate::accept::any_key` meets its contract: the folding is good, and its key is read again, or it is not (Accepted.key_is). Assumes nothing.
 use Rattle.std.proofs.Common.{true, false, ◌∙◌}
 use Rattle.plate.proofs.Accepted.{key_is}
 use Rattle.plate.proofs.accept.any_key.Goals as goal

@@ -1,5 +1,5 @@
 -- `plate::accept::any_rule` meets its contract: pattern and fields are tested in turn, and each refusal is the definition's
--- (Accepted.rule-pattern, rule-fields). Assumes nothing.
+-- (Accepted.rule_pattern, rule-fields). Assumes nothing.
 use Rattle.std.proofs.Common.{◌+◌, arith}
 use Rattle.plate.proofs.Accepted.{pattern_few, rule_pattern, rule-fields, rule_good}
 use Rattle.plate.proofs.accept.any_rule.Goals as goal

@@ -1,4 +1,4 @@
--- `plate::accept::end_rule` meets its contract: a plain pattern and quick fields are those of the definition (Accepted.rule-good); any other rule is left to
+-- `plate::accept::end_rule` meets its contract: a plain pattern and quick fields are those of the definition (Accepted.rule_good); any other rule is left to
 -- `any_rule`. Assumes nothing.
 use Rattle.std.proofs.Common.{◌≡◌, ℕ, ◌+◌, ◌*◌, refl, ap, ◌∙◌, add-zero, arith}
 use Rattle.plate.specs.Bits.{number_at}

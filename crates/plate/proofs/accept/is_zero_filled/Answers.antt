@@ -1,4 +1,4 @@
--- `plate::accept::is_zero_filled` meets its contract: both tests of `zeroFilled` are made in its order. Assumes nothing.
+-- `plate::accept::is_zero_filled` meets its contract: both tests of `zero_filled` are made in its order. Assumes nothing.
 use Rattle.plate.proofs.Accepted.{filled_is, filled_not}
 use Rattle.plate.proofs.accept.is_zero_filled.Goals as goal
 

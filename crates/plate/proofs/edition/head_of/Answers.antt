@@ -1,4 +1,4 @@
--- `plate::edition::head_of` meets its contract: the number of rules tells the edition (Facts.asks-1, asks-2). Assumes nothing.
+-- `plate::edition::head_of` meets its contract: the number of rules tells the edition (Facts.asks_1, asks_2). Assumes nothing.
 use Rattle.std.proofs.Common.{sym, ap, lt_of_le_of_lt, arith, lit<}
 use Rattle.plate.specs.Plate.{Edition}
 use Rattle.plate.proofs.Facts.{asks_1, asks_2}

@@ -1,4 +1,4 @@
--- `plate::edition::most_rules` meets its contract: the first byte tells the edition (Facts.tells-2, tells-1). Assumes nothing.
+-- `plate::edition::most_rules` meets its contract: the first byte tells the edition (Facts.tells_2, tells_1). Assumes nothing.
 use Rattle.std.proofs.Common.{sym, ap, arith}
 use Rattle.plate.specs.Plate.{Edition}
 use Rattle.plate.proofs.Facts.{tells_1, tells_2}

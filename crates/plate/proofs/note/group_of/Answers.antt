@@ -1,5 +1,5 @@
 -- `plate::note::group_of` meets its contract: a noted group is there, any other lies between the rules below its character and those below the next
--- (Halves.parted-group). Assumes nothing.
+-- (Halves.parted_group). Assumes nothing.
 use Rattle.std.proofs.Common.{ℕ, subst, add-one, arith}
 use Rattle.plate.specs.Read.{plate_in}
 use Rattle.plate.specs.Noted.{Parted}

@@ -1,5 +1,5 @@
 -- `plate::pattern::front` meets its contract: an ASCII byte is its own character, and any other is decoded by `wide_front`; what is found lies
--- within the bytes (Fronts.front-within). Assumes nothing.
+-- within the bytes (Fronts.front_within). Assumes nothing.
 use Rattle.std.proofs.Common.{◌<◌, arith}
 use Rattle.plate.proofs.Fronts.{front_within, ascii_zero, ascii_is}
 use Rattle.plate.proofs.pattern.front.Goals as goal

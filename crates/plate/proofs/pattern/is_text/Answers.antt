@@ -1,5 +1,5 @@
 -- `plate::pattern::is_text` meets its contract: the bytes left are good text exactly if all are; five ASCII bytes pass at once, a character passes
--- (Fronts.text-turn), anything else decides (text-stop), and no bytes are good (text-end). Assumes nothing.
+-- (Fronts.text_turn), anything else decides (text_stop), and no bytes are good (text_end). Assumes nothing.
 use Rattle.std.proofs.Common.{sym, refl, ◌∙◌, arith}
 use Rattle.plate.proofs.Fronts.{text_stop, text_turn, text_end}
 use Rattle.plate.proofs.pattern.is_text.Goals as goal

@@ -1,5 +1,5 @@
 -- `plate::pattern::is_text` meets its contract: the bytes left are good text exactly if all are; five ASCII bytes pass at once, a character passes
--- (Fronts.text-turn), anything else decides (text-stop), and no bytes are good (text-end). Assumes nothing.
+-- (Fronts.text_turn), anything else decides (text_stop), and no bytes are good (text_end). Assumes nothing.
 use Rattle.std.proofs.Common.{◌≡◌, ◌+◌, ◌*◌}
 use Rattle.plate.specs.Answers.{good_text, bytes_at}
 use Rattle.plate.proofs.pattern.is_text.Given as goal

@@ -1,4 +1,4 @@
--- `plate::pattern::wide_front` meets its contract: four bytes decide the character in front, with zeros behind the end (Fronts.from-four). Assumes
+-- `plate::pattern::wide_front` meets its contract: four bytes decide the character in front, with zeros behind the end (Fronts.from_four). Assumes
 -- nothing.
 use Rattle.std.proofs.Common.{◌≡◌, ◌<◌}
 use Rattle.chars.specs.Utf8.{char_of}

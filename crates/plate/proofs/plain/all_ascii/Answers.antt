@@ -1,4 +1,4 @@
--- `plate::plain::all_ascii` meets its contract: what a mask finds zero are ASCII bytes (Masks.low-ascii, Masks.all-low). Assumes nothing.
+-- `plate::plain::all_ascii` meets its contract: what a mask finds zero are ASCII bytes (Masks.low_ascii, Masks.all_low). Assumes nothing.
 use Rattle.std.proofs.Common.{arith, eqb-true}
 use Rattle.plate.proofs.Masks.{low_ascii, all_low}
 use Rattle.plate.proofs.plain.all_ascii.Goals as goal

@@ -1,4 +1,4 @@
--- `plate::plain::char_width` meets its contract: an ASCII byte passes, or a character of two bytes (Shapes.pass-one, Shapes.pass-two). Assumes nothing.
+-- `plate::plain::char_width` meets its contract: an ASCII byte passes, or a character of two bytes (Shapes.pass_one, Shapes.pass_two). Assumes nothing.
 use Rattle.std.proofs.Common.{refl, arith}
 use Rattle.plate.proofs.Shapes.{pass_one, pass_two}
 use Rattle.plate.proofs.plain.char_width.Goals as goal

@@ -1,4 +1,4 @@
--- `plate::plain::five_ascii` meets its contract: one byte passes, then two, then two more (Shapes.pass-both). Assumes nothing.
+-- `plate::plain::five_ascii` meets its contract: one byte passes, then two, then two more (Shapes.pass_both). Assumes nothing.
 use Rattle.std.proofs.Common.{arith}
 use mathlib.Core.Bool.{false≢true}
 use Rattle.plate.proofs.Shapes.{pass_one, pass_both}

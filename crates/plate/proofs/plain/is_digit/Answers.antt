@@ -1,4 +1,4 @@
--- `plate::plain::is_digit` meets its contract: a range of windows is a shape of fields (Accepted.digit-field). Assumes nothing.
+-- `plate::plain::is_digit` meets its contract: a range of windows is a shape of fields (Accepted.digit_field). Assumes nothing.
 use mathlib.Core.Bool.{false≢true}
 use Rattle.std.proofs.Common.{ltb-true}
 use Rattle.plate.proofs.Accepted.{digit_field}

@@ -1,4 +1,4 @@
--- `plate::plain::is_empty` meets its contract: a range of windows is a shape of fields (Shapes.empty-field). Assumes nothing.
+-- `plate::plain::is_empty` meets its contract: a range of windows is a shape of fields (Shapes.empty_field). Assumes nothing.
 use mathlib.Core.Bool.{false≢true}
 use Rattle.std.proofs.Common.{ltb-true}
 use Rattle.plate.proofs.Shapes.{empty_field}

@@ -1,4 +1,4 @@
--- `plate::plain::quick_code` meets its contract: an ASCII byte in front, and such bytes behind it (Shapes.ascii-first); any other is `plain_code`'s. Assumes nothing.
+-- `plate::plain::quick_code` meets its contract: an ASCII byte in front, and such bytes behind it (Shapes.ascii_first); any other is `plain_code`'s. Assumes nothing.
 use Rattle.std.proofs.Common.{◌*◌, ◌≤◌, refl, ◌∙◌, arith}
 use Rattle.plate.proofs.Windows.{front}
 use Rattle.plate.proofs.Shapes.{ascii_turn, ascii_first}

@@ -1,4 +1,4 @@
--- `plate::plain::short_alternative` meets its contract: each range is a shape (Shapes.no_digit, one-digit, two_digits). Assumes nothing.
+-- `plate::plain::short_alternative` meets its contract: each range is a shape (Shapes.no_digit, one_digit, two_digits). Assumes nothing.
 use Rattle.std.proofs.Common.{refl, arith}
 use Rattle.plate.proofs.Shapes.{no_digit, one_digit, two_digits}
 use Rattle.plate.proofs.plain.short_alternative.Goals as goal

@@ -1,5 +1,5 @@
--- `plate::plain::short_code` meets its contract: in front stands a character of two bytes, and text behind it, or an ASCII byte (Shapes.double-first,
--- Shapes.ascii-first). Assumes nothing.
+-- `plate::plain::short_code` meets its contract: in front stands a character of two bytes, and text behind it, or an ASCII byte (Shapes.double_first,
+-- Shapes.ascii_first). Assumes nothing.
 use Rattle.std.proofs.Common.{◌*◌, ◌≤◌, refl, ◌∙◌, arith}
 use Rattle.plate.proofs.Windows.{front}
 use Rattle.plate.proofs.Shapes.{ascii_turn, ascii_first, double_first}

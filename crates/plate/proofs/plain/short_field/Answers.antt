@@ -1,4 +1,4 @@
--- `plate::plain::short_field` meets its contract: one alternative behind its count (Shapes.single), or two (Shapes.left-turn, twice). Assumes nothing.
+-- `plate::plain::short_field` meets its contract: one alternative behind its count (Shapes.single), or two (Shapes.left_turn, twice). Assumes nothing.
 use Rattle.std.proofs.Common.{◌+◌, ◌≤◌, sym, refl, arith}
 use Rattle.plate.proofs.Windows.{front}
 use Rattle.plate.proofs.Shapes.{single, left_all, left_turn, left_none}

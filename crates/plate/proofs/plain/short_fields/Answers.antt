@@ -1,4 +1,4 @@
--- `plate::plain::short_fields` meets its contract: each field stands where the one before ended (Shapes.three-fields), in a window of its own. Assumes nothing.
+-- `plate::plain::short_fields` meets its contract: each field stands where the one before ended (Shapes.three_fields), in a window of its own. Assumes nothing.
 use Rattle.std.proofs.Common.{◌+◌, refl, arith}
 use Rattle.plate.proofs.Windows.{front}
 use Rattle.plate.proofs.Shapes.{three_fields}

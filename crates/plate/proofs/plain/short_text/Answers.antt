@@ -1,4 +1,4 @@
--- `plate::plain::short_text` meets its contract: the bytes left are text exactly if all are; each turn takes a character off (Shapes.rest-turn). Assumes nothing.
+-- `plate::plain::short_text` meets its contract: the bytes left are text exactly if all are; each turn takes a character off (Shapes.rest_turn). Assumes nothing.
 use Rattle.std.proofs.Common.{arith}
 use mathlib.Core.Bool.{false≢true}
 use Rattle.plate.proofs.Shapes.{rest_all, rest_turn, rest_none}

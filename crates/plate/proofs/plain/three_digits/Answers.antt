@@ -1,4 +1,4 @@
--- `plate::plain::three_digits` meets its contract: what a mask finds zero is a shape of three fields (Masks.three-digits). Assumes nothing.
+-- `plate::plain::three_digits` meets its contract: what a mask finds zero is a shape of three fields (Masks.three_digits). Assumes nothing.
 use Rattle.std.proofs.Common.{◌/◌, arith, eqb-true}
 use Rattle.plate.proofs.Masks.{rest_few, three_digits}
 use Rattle.plate.proofs.plain.three_digits.Goals as goal

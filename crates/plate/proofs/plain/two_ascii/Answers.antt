@@ -1,4 +1,4 @@
--- `plate::plain::two_ascii` meets its contract: one byte passes, and the next behind it (Shapes.pass-both). Assumes nothing.
+-- `plate::plain::two_ascii` meets its contract: one byte passes, and the next behind it (Shapes.pass_both). Assumes nothing.
 use mathlib.Core.Bool.{false≢true}
 use Rattle.std.proofs.Common.{arith}
 use Rattle.plate.proofs.Shapes.{pass_one, pass_both}

@@ -1,5 +1,5 @@
 -- `plate::read::alternative_at` meets its contract: the digits stored are the first k, and the fill stands behind them; each turn stores one more
--- (Parts.digits-store). Assumes nothing.
+-- (Parts.digits_store). Assumes nothing.
 use Rattle.std.proofs.Common.{◌<◌, refl, arith}
 use Rattle.plate.proofs.Parts.{count_six, digits_store, alternative_held}
 use Rattle.plate.proofs.read.alternative_at.Goals as goal

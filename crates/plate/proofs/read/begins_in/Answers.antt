@@ -1,4 +1,4 @@
--- `plate::read::begins_in` meets its contract: the window holds the pattern's length and its bytes as one number (Whole.pattern-packed). Assumes nothing.
+-- `plate::read::begins_in` meets its contract: the window holds the pattern's length and its bytes as one number (Whole.pattern_packed). Assumes nothing.
 use Rattle.std.proofs.Common.{◌≡◌, ℕ, ◌+◌, ◌/◌, ◌^◌, List, length, sym, ◌∙◌, arith}
 use Rattle.plate.specs.Bits.{number_at}
 use Rattle.plate.specs.Window.{Holds}

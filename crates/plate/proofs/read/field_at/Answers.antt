@@ -1,5 +1,5 @@
 -- `plate::read::field_at` meets its contract: the alternatives stored are the first k, and empty ones stand behind them; each turn stores one more
--- (Parts.alternatives-store). Assumes nothing.
+-- (Parts.alternatives_store). Assumes nothing.
 use Rattle.std.proofs.Common.{◌≡◌, ◌+◌, ◌<◌, ◌≤◌, refl, arith}
 use Rattle.plate.specs.Plate.{most_alternatives}
 use Rattle.plate.specs.Most.{farthest}

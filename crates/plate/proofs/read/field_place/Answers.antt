@@ -1,4 +1,4 @@
--- `plate::read::field_place` meets its contract: each field begins where the one before ends (Parts.place-start, place-vowel, place_other). Assumes
+-- `plate::read::field_place` meets its contract: each field begins where the one before ends (Parts.place_start, place-vowel, place_other). Assumes
 -- nothing.
 use Rattle.std.proofs.Common.{arith}
 use Rattle.plate.proofs.Parts.{place_start, place-vowel, place_other, vowel_near, field_near}

@@ -1,4 +1,4 @@
--- `plate::read::first_key` meets its contract: the first folding stands behind the head (Whole.key-first), or there is none (Whole.no_key). Assumes nothing.
+-- `plate::read::first_key` meets its contract: the first folding stands behind the head (Whole.key_first), or there is none (Whole.no_key). Assumes nothing.
 use Rattle.std.proofs.Common.{◌≡◌, ℕ, ◌+◌, ap, ◌∙◌}
 use Rattle.plate.specs.Bits.{number_at}
 use Rattle.plate.specs.Read.{folding_count, count_width}

@@ -1,5 +1,5 @@
 -- `plate::read::fold` meets its contract: what the foldings left say of the character is what all say. Keys rise, so below the first stands none
--- (Parts.fold-below), and the key in the middle tells which half may have it (Parts.fold-first, Parts.fold-last). Assumes nothing.
+-- (Parts.fold_below), and the key in the middle tells which half may have it (Parts.fold_first, Parts.fold_last). Assumes nothing.
 use Rattle.std.proofs.Common.{◌≡◌, ◌+◌, ◌*◌, ◌≤◌, true}
 use Rattle.plate.specs.Plate.{rising}
 use Rattle.plate.specs.Most.{foldings_most}

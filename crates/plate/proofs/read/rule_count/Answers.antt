@@ -1,4 +1,4 @@
--- `plate::read::rule_count` meets its contract: the rules of an accepted plate stand one behind the other (Facts.all-stand). Assumes nothing.
+-- `plate::read::rule_count` meets its contract: the rules of an accepted plate stand one behind the other (Facts.all_stand). Assumes nothing.
 use Rattle.std.proofs.Common.{sym, ap, ◌∙◌}
 use Rattle.plate.specs.Bits.{number_at}
 use Rattle.plate.proofs.Facts.{rules_counted, all_stand}

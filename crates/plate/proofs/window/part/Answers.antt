@@ -1,4 +1,4 @@
--- `plate::window::part` meets its contract: shift and remainder cut the bits out of whatever they stand in (Windows.part-is). Assumes nothing.
+-- `plate::window::part` meets its contract: shift and remainder cut the bits out of whatever they stand in (Windows.part_is). Assumes nothing.
 use Rattle.std.proofs.Common.{mod-lt, arith, pow_pos}
 use Rattle.plate.proofs.Windows.{part_is, shl_one, shl_pos}
 use Rattle.plate.proofs.window.part.Goals as goal

@@ -1,4 +1,4 @@
--- `plate::window::window_in` meets its contract: the place's bits lie within the eight bytes from its byte on (Windows.window-holds). Assumes nothing.
+-- `plate::window::window_in` meets its contract: the place's bits lie within the eight bytes from its byte on (Windows.window_holds). Assumes nothing.
 use Rattle.plate.proofs.Windows.{window_holds}
 use Rattle.plate.proofs.window.window_in.Goals as goal
 
