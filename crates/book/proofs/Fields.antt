@@ -95,14 +95,14 @@ module _ (sep : ℕ) (l : List ℕ) (i n : ℕ) where
       other : sound_from n (from i) ≡ sound_from n (onto (get_or l i 0) (from (i + 1)))
       other = told false (ne_eqb _ _ b)
 
-      pub sound-low : get_or l i 0 < 48 → sound_from n (split_at sep (drop i l)) ≡ false
-      sound-low e = other ∙ odd n (get_or l i 0) (from (i + 1)) (below_between 48 57 (get_or l i 0) e)
+      pub sound_low : get_or l i 0 < 48 → sound_from n (split_at sep (drop i l)) ≡ false
+      sound_low e = other ∙ odd n (get_or l i 0) (from (i + 1)) (below_between 48 57 (get_or l i 0) e)
 
-      pub sound-high : 57 < get_or l i 0 → sound_from n (split_at sep (drop i l)) ≡ false
-      sound-high e = other ∙ odd n (get_or l i 0) (from (i + 1)) (above_between 48 57 (get_or l i 0) e)
+      pub sound_high : 57 < get_or l i 0 → sound_from n (split_at sep (drop i l)) ≡ false
+      sound_high e = other ∙ odd n (get_or l i 0) (from (i + 1)) (above_between 48 57 (get_or l i 0) e)
 
-      pub sound-full : n ≡ 6 → sound_from n (split_at sep (drop i l)) ≡ false
-      sound-full e = other ∙ full n (get_or l i 0) (from (i + 1)) e
+      pub sound_full : n ≡ 6 → sound_from n (split_at sep (drop i l)) ≡ false
+      sound_full e = other ∙ full n (get_or l i 0) (from (i + 1)) e
 
       pub sound_more : n < 6 → 48 ≤ get_or l i 0 → get_or l i 0 ≤ 57 → sound_from n (split_at sep (drop i l)) ≡ sound_from (n + 1) (split_at sep (drop (i + 1) l))
       sound_more m low high = other ∙ more n (get_or l i 0) (from (i + 1)) m (is_between 48 57 (get_or l i 0) low high)

@@ -203,14 +203,14 @@ module _ (view : ℕ → Rule) (at : ℕ) (tally : Tally) (keys foldings : List 
     folding_fault_lem w a' p = ap (λ (t : Bool). when t 8) (lt-ltb 128 _ (subst (λ (n : ℕ). 128 < n) (sym longer) p.0)) ∙ sym p.1
 
     module _ (a' : List ℕ) (t : Tally) (p : FoldingNoted c target tally foldings a' (Noted.Fine t)) where
-      pub folding-fine : folding_fault (folding_of c target) book.foldings ≡ 0
-      folding-fine = ap (λ (t : Bool). when t 8) (le-ltb 128 _ (subst (λ (n : ℕ). n ≤ 128) (sym longer) p.0))
+      pub folding_fine : folding_fault (folding_of c target) book.foldings ≡ 0
+      folding_fine = ap (λ (t : Bool). when t 8) (le-ltb 128 _ (subst (λ (n : ℕ). n ≤ 128) (sym longer) p.0))
 
       first : take (length L) a' ≡ L
       first = first_pairs c target j foldings a' tally.foldings (length L) refl p.1
 
-      held-pairs : PairsHeld (length L) a'
-      held-pairs =
+      held_pairs : PairsHeld (length L) a'
+      held_pairs =
           let n = p.0 in
           let m = k.pairs.room in
           let room : length L ≤ length foldings = omega arith in
@@ -221,18 +221,18 @@ module _ (view : ℕ → Rule) (at : ℕ) (tally : Tally) (keys foldings : List 
             sorted = ap (λ (l : List ℕ). rising (map folding_in l)) first ∙ ap rising put ∙ put_rising (folding_of c target) book.foldings k.pairs.sorted;
           }
 
-      pub folding-kept : Kept view at t keys a'
-      folding-kept =
+      pub folding_kept : Kept view at t keys a'
+      folding_kept =
           subst (λ (t : Tally). Kept view at t keys a') (sym p.2)
           (record {
             rules = record { few = k.rules.few; few_read = k.rules.few_read; room = k.rules.room; few_bits = k.rules.few_bits };
-            pairs = held-pairs;
+            pairs = held_pairs;
             sure = k.sure;
             bits = k.bits;
           })
 
-      pub folding-noted : book_of view t keys a' ≡ with_folding (folding_of c target) (book_of view tally keys foldings)
-      folding-noted =
+      pub folding_noted : book_of view t keys a' ≡ with_folding (folding_of c target) (book_of view tally keys foldings)
+      folding_noted =
           ap (λ (t : Tally). book_of view t keys a') p.2
           ∙ ap (λ (l : List Folding). record { foldings = l; rules = book.rules; read = tally.read }) (ap (map folding_in) first ∙ put)
 

@@ -59,22 +59,22 @@ module _ (q : Rule) {out : List ℕ} {pen : Pen} (r : Ready out pen (rule_bits q
       ready₂ : Ready out₂ pen₂ (S ++ (W ++ O))
       ready₂ = ready_then (N ++ B) (S ++ (W ++ O)) r pattern
 
-      pub ready-start : Ready out₂ pen₂ (field_bits q.start)
-      ready-start = ready_first S (W ++ O) ready₂
+      pub ready_start : Ready out₂ pen₂ (field_bits q.start)
+      ready_start = ready_first S (W ++ O) ready₂
 
       module _ {out₃ : List ℕ} {pen₃ : Pen} (w₃ : Wrote out₂ pen₂ (field_bits q.start) out₃ pen₃) where
         ready₃ : Ready out₃ pen₃ (W ++ O)
         ready₃ = ready_then S (W ++ O) ready₂ w₃
 
-        pub ready-vowel : Ready out₃ pen₃ (field_bits q.vowel)
-        ready-vowel = ready_first W O ready₃
+        pub ready_vowel : Ready out₃ pen₃ (field_bits q.vowel)
+        ready_vowel = ready_first W O ready₃
 
         module _ {out₄ : List ℕ} {pen₄ : Pen} (w₄ : Wrote out₃ pen₃ (field_bits q.vowel) out₄ pen₄) where
-          pub ready-other : Ready out₄ pen₄ (field_bits q.other)
-          ready-other = ready_then W O ready₃ w₄
+          pub ready_other : Ready out₄ pen₄ (field_bits q.other)
+          ready_other = ready_then W O ready₃ w₄
 
-          pub wrote-rule : {out₅ : List ℕ} {pen₅ : Pen} → Wrote out₄ pen₄ (field_bits q.other) out₅ pen₅ → Wrote out pen (rule_bits q) out₅ pen₅
-          wrote-rule w₅ = wrote_then (N ++ B) (S ++ (W ++ O)) pattern (wrote_then S (W ++ O) w₃ (wrote_then W O w₄ w₅))
+          pub wrote_rule : {out₅ : List ℕ} {pen₅ : Pen} → Wrote out₄ pen₄ (field_bits q.other) out₅ pen₅ → Wrote out pen (rule_bits q) out₅ pen₅
+          wrote_rule w₅ = wrote_then (N ++ B) (S ++ (W ++ O)) pattern (wrote_then S (W ++ O) w₃ (wrote_then W O w₄ w₅))
 
 -- ---- the head
 
@@ -109,26 +109,26 @@ module _ (number width rules foldings : ℕ) (flag : Bool) {out : List ℕ} {pen
     ready_rules = ready_first H2 (H3 ++ (H4 ++ H5)) from_2
 
     module _ {out₂ : List ℕ} {pen₂ : Pen} (w₂ : Wrote out₁ pen₁ (bits_of width rules) out₂ pen₂) where
-      from-3 : Ready out₂ pen₂ (H3 ++ (H4 ++ H5))
-      from-3 = ready_then H2 (H3 ++ (H4 ++ H5)) from_2 w₂
+      from_3 : Ready out₂ pen₂ (H3 ++ (H4 ++ H5))
+      from_3 = ready_then H2 (H3 ++ (H4 ++ H5)) from_2 w₂
 
-      pub ready-foldings : Ready out₂ pen₂ (bits_of 8 foldings)
-      ready-foldings = ready_first H3 (H4 ++ H5) from-3
+      pub ready_foldings : Ready out₂ pen₂ (bits_of 8 foldings)
+      ready_foldings = ready_first H3 (H4 ++ H5) from_3
 
       module _ {out₃ : List ℕ} {pen₃ : Pen} (w₃ : Wrote out₂ pen₂ (bits_of 8 foldings) out₃ pen₃) where
-        from-4 : Ready out₃ pen₃ (H4 ++ H5)
-        from-4 = ready_then H3 (H4 ++ H5) from-3 w₃
+        from_4 : Ready out₃ pen₃ (H4 ++ H5)
+        from_4 = ready_then H3 (H4 ++ H5) from_3 w₃
 
-        pub ready-flag : Ready out₃ pen₃ (bits_of 1 (flag_bit flag))
-        ready-flag = ready_first H4 H5 from-4
+        pub ready_flag : Ready out₃ pen₃ (bits_of 1 (flag_bit flag))
+        ready_flag = ready_first H4 H5 from_4
 
         module _ {out₄ : List ℕ} {pen₄ : Pen} (w₄ : Wrote out₃ pen₃ (bits_of 1 (flag_bit flag)) out₄ pen₄) where
-          pub ready-zeros : Ready out₄ pen₄ (bits_of (15 - width) 0)
-          ready-zeros = ready_then H4 H5 from-4 w₄
+          pub ready_zeros : Ready out₄ pen₄ (bits_of (15 - width) 0)
+          ready_zeros = ready_then H4 H5 from_4 w₄
 
-          pub wrote-head : {out₅ : List ℕ} {pen₅ : Pen} → Wrote out₄ pen₄ (bits_of (15 - width) 0) out₅ pen₅
+          pub wrote_head : {out₅ : List ℕ} {pen₅ : Pen} → Wrote out₄ pen₄ (bits_of (15 - width) 0) out₅ pen₅
               → Wrote out pen (head_with number width rules foldings flag) out₅ pen₅
-          wrote-head w₅ =
+          wrote_head w₅ =
               wrote_then H1 (H2 ++ (H3 ++ (H4 ++ H5))) w₁ (wrote_then H2 (H3 ++ (H4 ++ H5)) w₂ (wrote_then H3 (H4 ++ H5) w₃ (wrote_then H4 H5 w₄ w₅)))
 
 -- ---- the plate
@@ -192,23 +192,23 @@ module _ (view : ℕ → Rule) {at : ℕ} (tally : Tally) (keys foldings : List 
       ready₁ : Ready out₁ pen₁ (F ++ R)
       ready₁ = ready_then H (F ++ R) ready₀ w₁
 
-      pub ready-pairs : Ready out₁ pen₁ (cat folding_bits (map folding_in (take tally.foldings foldings)))
-      ready-pairs = ready_first F R ready₁
+      pub ready_pairs : Ready out₁ pen₁ (cat folding_bits (map folding_in (take tally.foldings foldings)))
+      ready_pairs = ready_first F R ready₁
 
       module _ {out₂ : List ℕ} {pen₂ : Pen} (w₂ : Wrote out₁ pen₁ (cat folding_bits (map folding_in (take tally.foldings foldings))) out₂ pen₂) where
-        pub ready-keys : Ready out₂ pen₂ (cat rule_bits (rules_in view (take tally.rules keys)))
-        ready-keys = ready_then F R ready₁ w₂
+        pub ready_keys : Ready out₂ pen₂ (cat rule_bits (rules_in view (take tally.rules keys)))
+        ready_keys = ready_then F R ready₁ w₂
 
         module _ {out₃ : List ℕ} {pen₃ : Pen} (w₃ : Wrote out₂ pen₂ (cat rule_bits (rules_in view (take tally.rules keys))) out₃ pen₃) where
           all : Wrote out begin (H ++ (F ++ R)) out₃ pen₃
           all = wrote_then H (F ++ R) w₁ (wrote_then F R w₂ w₃)
 
-          pub ready-end : Ready out₃ pen₃ []
-          ready-end = ready_then (H ++ (F ++ R)) [] (ready_as (sym (append-nil (H ++ (F ++ R)))) ready₀) all
+          pub ready_end : Ready out₃ pen₃ []
+          ready_end = ready_then (H ++ (F ++ R)) [] (ready_as (sym (append-nil (H ++ (F ++ R)))) ready₀) all
 
           -- The bytes are the plate's, and what stood behind them.
-          pub wrote-plate : (out₄ : List ℕ) (n : ℕ) → Finished out₃ pen₃ out₄ n → Stored out (bytes_of flag (book_of view tally keys foldings)) out₄ n
-          wrote-plate out₄ n h =
+          pub wrote_plate : (out₄ : List ℕ) (n : ℕ) → Finished out₃ pen₃ out₄ n → Stored out (bytes_of flag (book_of view tally keys foldings)) out₄ n
+          wrote_plate out₄ n h =
               let is : pack (bits_in out₃ pen₃) ≡ bytes_of flag (book_of view tally keys foldings) = ap pack all.is ∙ plate_is in
               let le = h.1 in
               let on : pen₃.bytes + (n - pen₃.bytes) ≡ n = omega arith in

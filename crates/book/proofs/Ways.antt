@@ -65,28 +65,28 @@ module _ (r : Rule) (n : ℕ) where
       short = filled ∙ pass long fields (when_not (ltb 16 (length r.pattern)) 5 (le-ltb 16 (length r.pattern) i))
 
       -- A field's fault, where those before it have none, is the rule's.
-      pub start-wrong : {j : Judged} (w : Flaw) → FieldIs r.start j → j ≡ Wrong w → RuleIs r n j
-      start-wrong w f e =
+      pub start_wrong : {j : Judged} (w : Flaw) → FieldIs r.start j → j ≡ Wrong w → RuleIs r n j
+      start_wrong w f e =
           subst (RuleIs r n) (sym e) (short ∙ lead (field_fault r.start) (field_fault r.vowel ∷ field_fault r.other ∷ full ∷ []) w (subst (FieldIs r.start) e f))
 
       module _ (zs : field_fault r.start ≡ 0) where
         started : rule_fault r n ≡ first_fault (field_fault r.vowel ∷ field_fault r.other ∷ full ∷ [])
         started = short ∙ pass (field_fault r.start) (field_fault r.vowel ∷ field_fault r.other ∷ full ∷ []) zs
 
-        pub vowel-wrong : {j : Judged} (w : Flaw) → FieldIs r.vowel j → j ≡ Wrong w → RuleIs r n j
-        vowel-wrong w f e =
+        pub vowel_wrong : {j : Judged} (w : Flaw) → FieldIs r.vowel j → j ≡ Wrong w → RuleIs r n j
+        vowel_wrong w f e =
             subst (RuleIs r n) (sym e) (started ∙ lead (field_fault r.vowel) (field_fault r.other ∷ full ∷ []) w (subst (FieldIs r.vowel) e f))
 
         module _ (zv : field_fault r.vowel ≡ 0) where
           voiced : rule_fault r n ≡ first_fault (field_fault r.other ∷ full ∷ [])
           voiced = started ∙ pass (field_fault r.vowel) (field_fault r.other ∷ full ∷ []) zv
 
-          pub other-wrong : {j : Judged} (w : Flaw) → FieldIs r.other j → j ≡ Wrong w → RuleIs r n j
-          other-wrong w f e = subst (RuleIs r n) (sym e) (voiced ∙ lead (field_fault r.other) (full ∷ []) w (subst (FieldIs r.other) e f))
+          pub other_wrong : {j : Judged} (w : Flaw) → FieldIs r.other j → j ≡ Wrong w → RuleIs r n j
+          other_wrong w f e = subst (RuleIs r n) (sym e) (voiced ∙ lead (field_fault r.other) (full ∷ []) w (subst (FieldIs r.other) e f))
 
           module _ (zo : field_fault r.other ≡ 0) where
-            pub rule-full : most_rules ≤ n → rule_fault r n ≡ 8
-            rule-full j = voiced ∙ pass (field_fault r.other) (full ∷ []) zo ∙ lead full [] TooMany (when_so (leb most_rules n) 8 (le-leb most_rules n j))
+            pub rule_full : most_rules ≤ n → rule_fault r n ≡ 8
+            rule_full j = voiced ∙ pass (field_fault r.other) (full ∷ []) zo ∙ lead full [] TooMany (when_so (leb most_rules n) 8 (le-leb most_rules n j))
 
-            pub rule-fine : n < most_rules → rule_fault r n ≡ 0
-            rule-fine j = voiced ∙ pass (field_fault r.other) (full ∷ []) zo ∙ pass full [] (when_not (leb most_rules n) 8 (lt-leb most_rules n j))
+            pub rule_fine : n < most_rules → rule_fault r n ≡ 0
+            rule_fine j = voiced ∙ pass (field_fault r.other) (full ∷ []) zo ∙ pass full [] (when_not (leb most_rules n) 8 (lt-leb most_rules n j))

@@ -59,9 +59,9 @@ module _ (text : List ℕ) (k : ℕ) {r : Entry} (says : r ≡ entry (lent (plac
         go E.Unknown z = omega arith
 
     module _ (four : Four) (is : r ≡ E.Rule four) where
-      pub viewed-again : view text (place_in k) ≡ rule_in (lent (place_in k) text) four
-      viewed-again =
+      pub viewed_again : view text (place_in k) ≡ rule_in (lent (place_in k) text) four
+      viewed_again =
           again ∙ ap (λ (e : Entry). rule_said (said left e)) is ∙ ap (λ (l : List ℕ). rule_in l four) (sym (rest (place_in k) text))
 
-      pub fine-again : rule_fault (rule_in (lent (place_in k) text) four) 0 ≡ 0
-      fine-again = subst (λ (q : Rule). rule_fault q 0 ≡ 0) viewed-again s.fine
+      pub fine_again : rule_fault (rule_in (lent (place_in k) text) four) 0 ≡ 0
+      fine_again = subst (λ (q : Rule). rule_fault q 0 ≡ 0) viewed_again s.fine

@@ -56,8 +56,8 @@ module _ (text : List ℕ) (flag : Bool) (lent : List ℕ) where
       told : (is_text text ≡ true) × (every nonzero text ≡ not holds)
       told = let s = says text (Text holds) (sym f ∙ e) in (s.0, none_zero text ∙ ap not (sym s.1))
 
-      pub holds-zero : holds ≡ true → refusal 2 0 lent ≡ build_answer text flag lent
-      holds-zero z = two (and_right_false (is_text text) (every nonzero text) (told.1 ∙ ap not z))
+      pub holds_zero : holds ≡ true → refusal 2 0 lent ≡ build_answer text flag lent
+      holds_zero z = two (and_right_false (is_text text) (every nonzero text) (told.1 ∙ ap not z))
 
       pub read : holds ≡ false → build_answer text flag lent ≡ answered text flag lent (verdict blank (items text))
       read z =
@@ -85,9 +85,9 @@ module _ (text : List ℕ) (flag : Bool) (lent : List ℕ) where
           (record { number = 0; line = 0; length = length (bytes_of flag b); buffer = bytes_of flag b ++ drop (length (bytes_of flag b)) lent }))
           (lt-ltb (length lent) (length (bytes_of flag b)) l))
 
-      pub plate-built : (n : ℕ) (out : List ℕ) → n ≤ length lent → Stored lent (bytes_of flag b) out n
+      pub plate_built : (n : ℕ) (out : List ℕ) → n ≤ length lent → Stored lent (bytes_of flag b) out n
           → ◌≡◌ {A = Build.Built} (record { number = 0; line = 0; length = n; buffer = out }) (build_answer text flag lent)
-      plate-built n out l w =
+      plate_built n out l w =
           let plate = bytes_of flag b in
           let enough : length plate ≤ length lent = omega (arith, w.1) in
           (λ i. record { number = 0; line = 0; length = w.1 i; buffer = (w.0 ∙ ap (λ (m : ℕ). plate ++ drop m lent) w.1) i })

@@ -24,7 +24,7 @@ use Rattle.book.specs.declared.Tally.{Tally}
 use Rattle.book.specs.declared.Noted.{Noted}
 use Rattle.book.proofs.Ways as Ways
 use Rattle.laws.proofs.Sorting.{some_sorted}
-use Rattle.book.proofs.Noting.{none_kept, kept_later, double_kept, double_noted, rule_kept, rule_noted, rule_met, folding_fault_lem, folding-fine, folding-kept, folding-noted}
+use Rattle.book.proofs.Noting.{none_kept, kept_later, double_kept, double_noted, rule_kept, rule_noted, rule_met, folding_fault_lem, folding_fine, folding_kept, folding_noted}
 use Rattle.book.proofs.Noting.{order_kept, order_made, order_noted}
 use Rattle.builder.specs.Build.{fault, enter, Verdict, unless, verdict}
 use Rattle.builder.specs.Build.Verdict.{Faulty, Fine}
@@ -125,8 +125,8 @@ module _ (text : List ℕ) (at : ℕ) (tally : Tally) (keys seen foldings : List
       later = kept_later (view text) at tally keys foldings k.noted (at + 1) (omega arith)
 
       -- The place behind it is no large number.
-      pub behind-low : at + taken left e ≤ 65536
-      behind-low = let a = k.short in let w = near.1 in omega arith
+      pub behind_low : at + taken left e ≤ 65536
+      behind_low = let a = k.short in let w = near.1 in omega arith
 
     pub line_end_turn : (next : ℕ) {r : Entry} → (r ≡ entry (lent at text)) × Lies (length (lent at text)) r → r ≡ E.LineEnd next
         → TurnIs text at tally keys foldings keys seen foldings (On (at + next) tally)
@@ -149,19 +149,19 @@ module _ (text : List ℕ) (at : ℕ) (tally : Tally) (keys seen foldings : List
           let x = b.key_small in
           let y = b.target_small in (omega arith, omega arith)
 
-      pub folding-turn : (foldings' : List ℕ) (n : Noted) → FoldingNoted c target tally foldings foldings' n
+      pub folding_turn : (foldings' : List ℕ) (n : Noted) → FoldingNoted c target tally foldings foldings' n
           → TurnIs text at tally keys foldings keys seen foldings' (turn_of n (at + next))
-      folding-turn foldings' (Noted.Refused w) p =
+      folding_turn foldings' (Noted.Refused w) p =
           stop (E.Folding c target next) says is tt (Flawed w)
           (folding_fault_lem (view text) at tally keys foldings k.noted c target small.0 small.1 w foldings' p)
-      folding-turn foldings' (Noted.Fine t) p =
+      folding_turn foldings' (Noted.Fine t) p =
           let i = small.0 in
           let j = small.1 in
           on (E.Folding c target next) says is tt t keys seen foldings'
-          (kept_later (view text) at t keys foldings' (folding-kept (view text) at tally keys foldings k.noted c target i j foldings' t p) (at + 1) (omega arith))
+          (kept_later (view text) at t keys foldings' (folding_kept (view text) at tally keys foldings k.noted c target i j foldings' t p) (at + 1) (omega arith))
           (subst (λ (t : Tally). Met t keys seen) (sym p.2) k.met)
-          (folding-noted (view text) at tally keys foldings k.noted c target i j foldings' t p)
-          (folding-fine (view text) at tally keys foldings k.noted c target i j foldings' t p)
+          (folding_noted (view text) at tally keys foldings k.noted c target i j foldings' t p)
+          (folding_fine (view text) at tally keys foldings k.noted c target i j foldings' t p)
 
     -- A rule.
     module _ (four : Four) {r : Entry} (says : (r ≡ entry (lent at text)) × Lies (length (lent at text)) r) (is : r ≡ E.Rule four) where
@@ -199,6 +199,6 @@ module _ (text : List ℕ) (at : ℕ) (tally : Tally) (keys seen foldings : List
           p.fine
 
       -- As the rest is lent.
-      pub rule-turn : (keys' seen' : List ℕ) (n : Noted) → FourNoted text (rule_in (lent at text) four) at tally keys seen keys' seen' n
+      pub rule_turn : (keys' seen' : List ℕ) (n : Noted) → FourNoted text (rule_in (lent at text) four) at tally keys seen keys' seen' n
           → TurnIs text at tally keys foldings keys' seen' foldings (turn_of n (at + four.next))
-      rule-turn keys' seen' n p = entered double refl keys' seen' n (subst (λ (l : List ℕ). FourNoted text (rule_in l four) at tally keys seen keys' seen' n) (rest at text) p)
+      rule_turn keys' seen' n p = entered double refl keys' seen' n (subst (λ (l : List ℕ). FourNoted text (rule_in l four) at tally keys seen keys' seen' n) (rest at text) p)

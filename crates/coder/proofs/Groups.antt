@@ -93,8 +93,8 @@ module _ (s places rest : List ℕ) (first behind : ℕ) where
       counted : i < length rules
       counted = let w = g.within in omega arith
 
-      pub has-place : i < length places
-      has-place = placed_room s places a p i counted
+      pub has_place : i < length places
+      has_place = placed_room s places a p i counted
 
       pub stands : Here s here
       stands = placed_here s places a p i counted
@@ -104,11 +104,11 @@ module _ (s places rest : List ℕ) (first behind : ℕ) where
           slice-cons i behind rules (rule_at s 0) h g.within
           ∙ ap₂ (λ (r : Rule) (m : ℕ). r ∷ slice m behind rules) (placed_rule s places a p i counted (rule_at s 0)) (sym (add-one i))
 
-      pub left-hit : Left i → begins (letters (rule_at s here)) rest ≡ true → hit_at false rules rest ≡ Taken (rule_at s here)
-      left-hit k b = sym k.3 ∙ hit (slice i behind rules) (ltb first i) (rule_at s here) (slice (i + 1) behind rules) next rest l b
+      pub left_hit : Left i → begins (letters (rule_at s here)) rest ≡ true → hit_at false rules rest ≡ Taken (rule_at s here)
+      left_hit k b = sym k.3 ∙ hit (slice i behind rules) (ltb first i) (rule_at s here) (slice (i + 1) behind rules) next rest l b
 
-      pub left-miss : Left i → begins (letters (rule_at s here)) rest ≡ false → Left (i + 1)
-      left-miss k b =
+      pub left_miss : Left i → begins (letters (rule_at s here)) rest ≡ false → Left (i + 1)
+      left_miss k b =
           let all = and_true (is_of (get_or rest 0 0) (rule_at s here)) (every (is_of (get_or rest 0 0)) (slice (i + 1) behind rules)) (ap (every (is_of (get_or rest 0 0))) (sym next) ∙ k.2) in
           let f = first_is (rule_at s here) stands.good in
           let low = k.0 in (

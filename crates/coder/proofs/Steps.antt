@@ -134,14 +134,14 @@ module _ (s name : List ℕ) (most room : ℕ) where
         pub used_over : answer.over ≡ true → outcome room (cut_all most (uses rs name)) start ≡ none
         used_over h = sym l.left ∙ ap (λ (us : List Use). outcome room us bs) first ∙ answer_over room (use_of f r.anyway) rest bs answer l.fits g h
 
-        pub used-on : answer.over ≡ false → Left rs name most room true r.before r.at (branches_of answer.next)
-        used-on h =
+        pub used_on : answer.over ≡ false → Left rs name most room true r.before r.at (branches_of answer.next)
+        used_on h =
             let q = answer_fits room (use_of f r.anyway) rest bs answer l.fits g h in
             record { fits = q.0; left = sym (ap (λ (us : List Use). outcome room us bs) first ∙ q.1) ∙ l.left }
 
       -- The branches that it makes of these, no more than these, are known.
-      pub used-by : (to : List Branch) → to ≡ step (use_of f r.anyway) bs → length to ≤ length bs → Left rs name most room true r.before r.at to
-      used-by to is few =
+      pub used_by : (to : List Branch) → to ≡ step (use_of f r.anyway) bs → length to ≤ length bs → Left rs name most room true r.before r.at to
+      used_by to is few =
           let h = l.fits in
           record {
             fits = omega arith;

@@ -95,19 +95,19 @@ module _ (es : List ℕ) (n : ℕ) (e : length es ≡ n) (r : ℕ) (lent buffer 
       whole : used % 4 ≡ 0
       whole = let l = length-take-le used index (omega arith) in let m = (index_true (take used index) i).0 in omega arith
 
-      pub lent-long : used + 4 * n ≡ length (take (used + 4 * n) index)
-      lent-long = sym (length-take-le (used + 4 * n) index room)
+      pub lent_long : used + 4 * n ≡ length (take (used + 4 * n) index)
+      lent_long = sym (length-take-le (used + 4 * n) index room)
 
-      pub lent-whole : length (take (used + 4 * n) index) % 4 ≡ 0
-      lent-whole = let l = lent-long in let m = whole in omega arith
+      pub lent_whole : length (take (used + 4 * n) index) % 4 ≡ 0
+      lent_whole = let l = lent_long in let m = whole in omega arith
 
-      pub lent-more : length (take (4 * n) (s ++ drop (4 * n) buffer)) ≤ length (take (used + 4 * n) index)
-      lent-more = let l = lent-long in let m = new_length in omega arith
+      pub lent_more : length (take (4 * n) (s ++ drop (4 * n) buffer)) ≤ length (take (used + 4 * n) index)
+      lent_more = let l = lent_long in let m = new_length in omega arith
 
       old : old_entries (take (used + 4 * n) index) (entries (take (4 * n) (s ++ drop (4 * n) buffer))) ≡ entries (take used index)
       old =
           let b : List ℕ = take (used + 4 * n) index in
-          let l = lent-long in
+          let l = lent_long in
           let w = whole in
           let long : length (entries b) ≡ (used + 4 * n) / 4 = length_entries b ∙ ap (λ (k : ℕ). k / 4) (sym l) in
           let few : length (entries (take (4 * n) (s ++ drop (4 * n) buffer))) ≡ n = ap length new_entries ∙ length_sorted es ∙ e in
@@ -124,12 +124,12 @@ module _ (es : List ℕ) (n : ℕ) (e : length es ≡ n) (r : ℕ) (lent buffer 
           front_of (suc j) (suc k) [] h = refl
           front_of (suc j) (suc k) (x ∷ l) h = ap (λ (m : List ℕ). x ∷ m) (front_of j k l (omega arith))
 
-      pub old-rises : Rising (old_entries (take (used + 4 * n) index) (entries (take (4 * n) (s ++ drop (4 * n) buffer))))
-      old-rises = subst Rising (sym old) (strict_weak (entries (take used index)) (index_true (take used index) i).1)
+      pub old_rises : Rising (old_entries (take (used + 4 * n) index) (entries (take (4 * n) (s ++ drop (4 * n) buffer))))
+      old_rises = subst Rising (sym old) (strict_weak (entries (take used index)) (index_true (take used index) i).1)
 
-      pub all-merged : (b : List ℕ)
+      pub all_merged : (b : List ℕ)
           → b ≡ entry_bytes (sorted (old_entries (take (used + 4 * n) index) (entries (take (4 * n) (s ++ drop (4 * n) buffer))) ++ entries (take (4 * n) (s ++ drop (4 * n) buffer))))
           → b ++ drop (used + 4 * n) index ≡ entry_bytes (sorted (entries (take used index) ++ es)) ++ drop (used + 4 * n) index
-      all-merged b f =
+      all_merged b f =
           ap (λ (l : List ℕ). l ++ drop (used + 4 * n) index)
           (f ∙ ap₂ (λ (x y : List ℕ). entry_bytes (sorted (x ++ y))) old new_entries ∙ ap entry_bytes (sorted_first (entries (take used index)) es))

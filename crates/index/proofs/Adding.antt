@@ -158,21 +158,21 @@ module _ (plate name index : List ℕ) (used : ℕ) (report : List ℕ) (noted :
               let w = room_for in
               both_true (le-leb (length notes) most_records (omega arith)) (both_true (le-leb (4 * length all) (length index) (omega arith)) (le-leb (length notes) (length report) (omega arith)))
 
-          noted-set : set report noted r.refused ≡ notes ++ drop (length notes) report
-          noted-set =
+          noted_set : set report noted r.refused ≡ notes ++ drop (length notes) report
+          noted_set =
               let n : suc noted ≡ length notes = sym (notes_long good.reported ∙ omega arith) in
               set_split report noted r.refused g
               ∙ ap₂ (λ (b k : ℕ). take noted report ++ (b ∷ drop k report)) l.refused n
               ∙ sym (append_assoc (take noted report) (refusal_of plate name ∷ []) (drop (length notes) report))
 
-          pub all-added : (out : List ℕ)
+          pub all_added : (out : List ℕ)
               → out ≡ entry_bytes (sorted (olds ++ map (entry_of noted) (map code_number (codes_from r.count line)))) ++ drop (used + 4 * r.count) index
               → record { number = 0; index_length = used + 4 * r.count; report_length = noted + 1; index = out; report = set report noted r.refused }
               ≡ add_answer plate name index used report noted
-          all-added out q =
+          all_added out q =
               let same : out ≡ entry_bytes all ++ drop (4 * length all) index =
               q
               ∙ ap (λ (cs : List ℕ). entry_bytes (sorted (olds ++ map (entry_of noted) cs)) ++ drop (used + 4 * r.count) index) (listed_codes plate name line r l)
               ∙ ap₂ (λ (es : List ℕ) (k : ℕ). entry_bytes es ++ drop k index) (sym all_sorted) (sym all_long) in
-              (λ j. record { number = 0; index_length = sym all_long j; report_length = sym (notes_long good.reported) j; index = same j; report = noted-set j })
+              (λ j. record { number = 0; index_length = sym all_long j; report_length = sym (notes_long good.reported) j; index = same j; report = noted_set j })
               ∙ by_tests true true e fit

@@ -92,17 +92,17 @@ module _ (plate bytes index report : List ℕ) where
       three : (t u : Bool) → leb (4 * length all) (length index) ≡ t → leb (length notes) (length report) ≡ u → fits all notes index report ≡ t && u
       three t u e f = ap₂ (λ (x y : Bool). x && y) within (ap₂ (λ (x y : Bool). x && y) e f)
 
-      none-fits : (t : Bool) → t && false ≡ false
-      none-fits true = refl
-      none-fits false = refl
+      none_fits : (t : Bool) → t && false ≡ false
+      none_fits true = refl
+      none_fits false = refl
 
-      pub short-report : length report < length (names bytes) → unmade 18 index report ≡ make_answer plate bytes index report
-      short-report h =
+      pub short_report : length report < length (names bytes) → unmade 18 index report ≡ make_answer plate bytes index report
+      short_report h =
           let n = notes_count in
-          by_fit false (three (leb (4 * length all) (length index)) false refl (lt-leb (length notes) (length report) (omega arith)) ∙ none-fits (leb (4 * length all) (length index)))
+          by_fit false (three (leb (4 * length all) (length index)) false refl (lt-leb (length notes) (length report) (omega arith)) ∙ none_fits (leb (4 * length all) (length index)))
 
-      pub short-index : length index < 4 * length (entries_from plate 0 (names bytes)) → unmade 18 index report ≡ make_answer plate bytes index report
-      short-index h =
+      pub short_index : length index < 4 * length (entries_from plate 0 (names bytes)) → unmade 18 index report ≡ make_answer plate bytes index report
+      short_index h =
           let c = index_count plate a (names bytes) few in
           by_fit false (three false (leb (length notes) (length report)) (lt-leb (4 * length all) (length index) (omega arith)) refl)
 

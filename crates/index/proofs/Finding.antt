@@ -97,8 +97,8 @@ module _ (plate index name lent : List ℕ) where
         is_found : marked 0 marks ≡ found
         is_found = marked_records (entries index) (map code_number (codes_from r.count line)) marks m ∙ ap (λ (cs : List ℕ). records_of cs (entries index)) (listed_codes plate name line r l)
 
-        how-long : length (cat two_bytes found) ≡ 2 * length (marked 0 marks)
-        how-long = length_two found ∙ ap (λ (rs : List ℕ). 2 * length rs) (sym is_found)
+        how_long : length (cat two_bytes found) ≡ 2 * length (marked 0 marks)
+        how_long = length_two found ∙ ap (λ (rs : List ℕ). 2 * length rs) (sym is_found)
 
         by_room : (t : Bool) → fit ≡ t → judged true true true t ≡ find_answer plate index name lent
         unfolding find_answer
@@ -107,12 +107,12 @@ module _ (plate index name lent : List ℕ) where
             ∙ ap₂ (λ (u v : Bool). judged u v named t) (sym a) (sym i)
             ∙ ap (λ (u : Bool). judged (accepted plate) (is_index index) named u) (sym f)
 
-        pub short-buffer : (n : ℕ) → n ≡ length (marked 0 marks) → length lent / 2 < n → unwritten 9 lent ≡ find_answer plate index name lent
-        short-buffer n e g = let k = how-long in by_room false (lt-leb (length (cat two_bytes found)) (length lent) (omega arith))
+        pub short_buffer : (n : ℕ) → n ≡ length (marked 0 marks) → length lent / 2 < n → unwritten 9 lent ≡ find_answer plate index name lent
+        short_buffer n e g = let k = how_long in by_room false (lt-leb (length (cat two_bytes found)) (length lent) (omega arith))
 
         pub all_found : (n : ℕ) → n ≡ length (marked 0 marks) → n ≤ length lent / 2 → (k : ℕ) (out : List ℕ) → Puts (cat two_bytes (marked 0 marks)) k lent out
             → record { number = 0; length = k; buffer = out } ≡ find_answer plate index name lent
         all_found n e g k out p =
-            let long = how-long in
+            let long = how_long in
             let q = subst (λ (rs : List ℕ). Puts (cat two_bytes rs) k lent out) is_found p in
             (λ j. record { number = 0; length = q.count j; buffer = q.is j }) ∙ by_room true (le-leb (length (cat two_bytes found)) (length lent) (omega arith))

@@ -246,11 +246,11 @@ module _ (g : ℕ → Bool) (end : ℕ → ℕ) (a : ℕ) where
     three_2 q i j = let t = to (g a) (end a) v e f in rw (t.0, t.1, nowhere (g v) (end v) i j)
 
     module _ (q : Step) (i : q ≡ step_if (g v) (end v)) (w : ℕ) (j : q ≡ To w) (p : Step) (k : p ≡ step_if (g w) (end w)) where
-      pub three-3 : p ≡ Nowhere → Nowhere ≡ three
-      three-3 l = let t = to (g a) (end a) v e f in let u = to (g v) (end v) w i j in rw (t.0, t.1, u.0, u.1, nowhere (g w) (end w) k l)
+      pub three_3 : p ≡ Nowhere → Nowhere ≡ three
+      three_3 l = let t = to (g a) (end a) v e f in let u = to (g v) (end v) w i j in rw (t.0, t.1, u.0, u.1, nowhere (g w) (end w) k l)
 
-      pub three-4 : (x : ℕ) → p ≡ To x → To x ≡ three
-      three-4 x l =
+      pub three_4 : (x : ℕ) → p ≡ To x → To x ≡ three
+      three_4 x l =
           let t = to (g a) (end a) v e f in let u = to (g v) (end v) w i j in let m = to (g w) (end w) x k l in
           rw (t.0, t.1, u.0, u.1, m.0, m.1)
 
@@ -298,8 +298,8 @@ module _ (s : List ℕ) (at : ℕ) where
       decides : seen (good_three here) ≡ rule_made s at
       decides = sym (ap (λ (t : Bool). seen (t && good_three here)) (is_code (good_pattern pat) (code_of (char_of pat)) code d f).0) ∙ ap made_with e
 
-      pub rule-fields : q ≡ Nowhere → Wrong ≡ rule_made s at
-      rule-fields m = sym (ap seen (nowhere (good_three here) (end_at (end_at (end_at here))) l m)) ∙ decides
+      pub rule_fields : q ≡ Nowhere → Wrong ≡ rule_made s at
+      rule_fields m = sym (ap seen (nowhere (good_three here) (end_at (end_at (end_at here))) l m)) ∙ decides
 
       pub rule_good : (next : ℕ) → q ≡ To next → Good code k next ≡ rule_made s at
       rule_good next m =
@@ -402,23 +402,23 @@ module _ (s : List ℕ) (at key : ℕ) where
       known : (x : Bool) → w ≡ x → folding_fits ≡ x && ltb key (number_at s at 21)
       known x j = ap₂ (λ (a b : Bool). (a && b) && ltb key (number_at s at 21)) (ap nonzero_scalar (sym e) ∙ sym d ∙ f) (ap nonzero_scalar (sym g) ∙ sym i ∙ j)
 
-      pub folding-target : w ≡ false → false ≡ folding_fits
-      folding-target j = sym (known false j)
+      pub folding_target : w ≡ false → false ≡ folding_fits
+      folding_target j = sym (known false j)
 
-      pub folding-is : w ≡ true → ltb key k ≡ folding_fits
-      folding-is j = ap (ltb key) e ∙ sym (known true j)
+      pub folding_is : w ≡ true → ltb key k ≡ folding_fits
+      folding_is j = ap (ltb key) e ∙ sym (known true j)
 
   module _ (left : ℕ) (h : 0 < left) (v : Bool) (e : v ≡ folding_fits) where
     split_foldings : foldings_good s at left key ≡ folding_fits && foldings_good s (at + 42) (left - 1) (number_at s at 21)
     split_foldings =
         let fs = many (folding_at s) folding_end (left - 1) (at + 42) in
         ap (λ (l : List Folding). every good_folding l && above key l) (many_cons (folding_at s) folding_end left at h)
-        ∙ ap (λ (t : Bool). (good_folding (folding_at s at) && every good_folding fs) && (ltb key (number_at s at 21) && t)) (behind-key (folding_at s at) fs)
+        ∙ ap (λ (t : Bool). (good_folding (folding_at s at) && every good_folding fs) && (ltb key (number_at s at 21) && t)) (behind_key (folding_at s at) fs)
         ∙ and_cross (good_folding (folding_at s at)) (every good_folding fs) (ltb key (number_at s at 21)) (above (number_at s at 21) fs)
       where
-        behind-key : (f : Folding) (fs : List Folding) → rising (f ∷ fs) ≡ above f.key fs
-        behind-key f [] = refl
-        behind-key f (g ∷ fs) = refl
+        behind_key : (f : Folding) (fs : List Folding) → rising (f ∷ fs) ≡ above f.key fs
+        behind_key f [] = refl
+        behind_key f (g ∷ fs) = refl
 
     pub foldings_stop : v ≡ false → false ≡ foldings_good s at left key
     foldings_stop f = sym (split_foldings ∙ and_left_false _ _ (sym e ∙ f))
@@ -565,16 +565,16 @@ module _ (s : List ℕ) (number w least most : ℕ) where
     accept_bad_folding f = sym (seven_6 t1 t2 t3 t4 t5 t6 t7 (sym foldings_are ∙ f))
 
     module _ (n : ℕ) (j : n ≡ rule_count w s) (r : Step) (k : r ≡ rules_step s (foldings_place + 42 * m) n 0 0) where
-      rules-are : r ≡ step_if t4 (plate_end w s)
-      rules-are = k ∙ ap₂ (λ (p q : ℕ). rules_step s (foldings_place + 42 * p) q 0 0) i j ∙ ap (λ (t : Bool). step_if t (plate_end w s)) (rules_start rs)
+      rules_are : r ≡ step_if t4 (plate_end w s)
+      rules_are = k ∙ ap₂ (λ (p q : ℕ). rules_step s (foldings_place + 42 * p) q 0 0) i j ∙ ap (λ (t : Bool). step_if t (plate_end w s)) (rules_start rs)
 
-      pub accept-bad-rule : r ≡ Nowhere → false ≡ accepted_in e s
-      accept-bad-rule f = sym (seven_4 t1 t2 t3 t4 t5 t6 t7 (nowhere t4 (plate_end w s) rules-are f))
+      pub accept_bad_rule : r ≡ Nowhere → false ≡ accepted_in e s
+      accept_bad_rule f = sym (seven_4 t1 t2 t3 t4 t5 t6 t7 (nowhere t4 (plate_end w s) rules_are f))
 
-      pub accept-end : (x y : ℕ) → x ≡ number_at s 0 8 → x ≡ number → y ≡ reserved w s → y ≡ 0 → least ≤ n → n ≤ most → m ≤ most_foldings → v ≡ true
+      pub accept_end : (x y : ℕ) → x ≡ number_at s 0 8 → x ≡ number → y ≡ reserved w s → y ≡ 0 → least ≤ n → n ≤ most → m ≤ most_foldings → v ≡ true
           → (end : ℕ) → r ≡ To end → (z : Bool) → z ≡ zero_filled s end → z ≡ accepted_in e s
-      accept-end x y a a' b b' c c' d' f end g z l =
-          let t = to t4 (plate_end w s) end rules-are g in
+      accept_end x y a a' b b' c c' d' f end g z l =
+          let t = to t4 (plate_end w s) end rules_are g in
           l ∙ ap (zero_filled s) (sym t.1)
           ∙ sym (seven_all t1 t2 t3 t4 t5 t6 t7 (eq-eqb _ _ (sym a ∙ a')) (eq-eqb _ _ (sym b ∙ b'))
           (ap (between least most) (rules_counted n j) ∙ is_between least most n c c')

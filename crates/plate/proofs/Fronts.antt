@@ -102,17 +102,17 @@ module _ (s : List ℕ) (n at : ℕ) where
 
     -- The whole decoder's answer, as a front.
     module _ (r : Char) (e : r ≡ char_of (bytes_at s n at)) where
-      pub decoded-zero : (c w : ℕ) → r ≡ One c w → c ≡ 0 → FrontIs.Not ≡ front_of (char_of (bytes_at s n at))
-      decoded-zero c w f z = sym (ap front_of (sym e ∙ f) ∙ ap (λ (d : ℕ). front_of (One d w)) z)
+      pub decoded_zero : (c w : ℕ) → r ≡ One c w → c ≡ 0 → FrontIs.Not ≡ front_of (char_of (bytes_at s n at))
+      decoded_zero c w f z = sym (ap front_of (sym e ∙ f) ∙ ap (λ (d : ℕ). front_of (One d w)) z)
 
       pub decoded_is : (c w : ℕ) → r ≡ One c w → (c ≡ 0 → ⊥) → FrontIs.Is c w ≡ front_of (char_of (bytes_at s n at))
       decoded_is c w f z = sym (ap front_of (sym e ∙ f) ∙ ap (λ (t : Bool). cond t (FrontIs.Is c w) FrontIs.Not) (lt-ltb 0 c (omega arith)))
 
-      pub decoded-bad : r ≡ Bad → FrontIs.Not ≡ front_of (char_of (bytes_at s n at))
-      decoded-bad f = sym (ap front_of (sym e ∙ f))
+      pub decoded_bad : r ≡ Bad → FrontIs.Not ≡ front_of (char_of (bytes_at s n at))
+      decoded_bad f = sym (ap front_of (sym e ∙ f))
 
-      pub decoded-end : r ≡ End → FrontIs.Not ≡ front_of (char_of (bytes_at s n at))
-      decoded-end f = sym (ap front_of (sym e ∙ f))
+      pub decoded_end : r ≡ End → FrontIs.Not ≡ front_of (char_of (bytes_at s n at))
+      decoded_end f = sym (ap front_of (sym e ∙ f))
 
   -- It lies within the bytes.
   pub front_within : (r : Front.Front) → r ≡ front_of (char_of (bytes_at s n at)) → FrontTo r n

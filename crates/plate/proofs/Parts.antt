@@ -175,8 +175,8 @@ module _ (s : List ℕ) where
     place_start w = ap (λ (k : ℕ). at + 5 + 8 * k) e ∙ ap (field_place s at) (sym w)
 
     module _ (v : ℕ) (f : v ≡ field_end s (at + 5 + 8 * n)) where
-      pub place-vowel : which ≡ 1 → v ≡ field_place s at which
-      place-vowel w = f ∙ ap (λ (k : ℕ). field_end s (at + 5 + 8 * k)) e ∙ ap (field_place s at) (sym w)
+      pub place_vowel : which ≡ 1 → v ≡ field_place s at which
+      place_vowel w = f ∙ ap (λ (k : ℕ). field_end s (at + 5 + 8 * k)) e ∙ ap (field_place s at) (sym w)
 
       pub place_other : (which ≡ 0 → ⊥) → (which ≡ 1 → ⊥) → which ≤ 2 → (o : ℕ) → o ≡ field_end s v → o ≡ field_place s at which
       place_other w x y o g =
@@ -200,11 +200,11 @@ module _ (s : List ℕ) where
     pub pattern_count : (n : ℕ) → n ≡ number_at s at 5 → (n ≡ length (pattern_at s at)) × (0 < n) × (n ≤ most_bytes)
     pattern_count n e =
         let l = e ∙ sym (bytes_length s (number_at s at 5) (at + 5)) in
-        let b = between_true 1 most_bytes (length (pattern_at s at)) (and_true (between 1 most_bytes (length (pattern_at s at))) (good_text (pattern_at s at)) pattern-good).0 in
+        let b = between_true 1 most_bytes (length (pattern_at s at)) (and_true (between 1 most_bytes (length (pattern_at s at))) (good_text (pattern_at s at)) pattern_good).0 in
         (l, omega (arith, l), omega (arith, l))
       where
-        pattern-good : good_pattern (pattern_at s at) ≡ true
-        pattern-good = (and_true (good_pattern (rule_at s at).pattern) (good_field (rule_at s at).start && (good_field (rule_at s at).vowel && good_field (rule_at s at).other)) here.good).0
+        pattern_good : good_pattern (pattern_at s at) ≡ true
+        pattern_good = (and_true (good_pattern (rule_at s at).pattern) (good_field (rule_at s at).start && (good_field (rule_at s at).vowel && good_field (rule_at s at).other)) here.good).0
 
     pattern_text : good_text (pattern_at s at) ≡ true
     pattern_text =
@@ -225,13 +225,13 @@ module _ (s : List ℕ) where
       rest = drop k (pattern_at s at)
 
       -- From a mark on, the pattern is text without a zero byte.
-      rest-text : good_text rest ≡ true
+      rest_text : good_text rest ≡ true
       unfolding Mark
-      rest-text =
+      rest_text =
           both_true (every_drop nonzero_byte k (pattern_at s at) (and_true (every nonzero_byte (pattern_at s at)) (is_text (pattern_at s at)) pattern_text).0) mark
 
-      rest-bytes : (n : ℕ) → n ≡ number_at s at 5 → rest ≡ bytes_at s (n - k) (at + 5 + 8 * k)
-      rest-bytes n e = bytes_drop s (number_at s at 5) (at + 5) k ∙ ap (λ (m : ℕ). bytes_at s (m - k) (at + 5 + 8 * k)) (sym e)
+      rest_bytes : (n : ℕ) → n ≡ number_at s at 5 → rest ≡ bytes_at s (n - k) (at + 5 + 8 * k)
+      rest_bytes n e = bytes_drop s (number_at s at 5) (at + 5) k ∙ ap (λ (m : ℕ). bytes_at s (m - k) (at + 5 + 8 * k)) (sym e)
 
       pub rest_some : (n : ℕ) → n ≡ number_at s at 5 → k < n
       rest_some n e = omega (arith, (pattern_count n e).0)
@@ -249,22 +249,22 @@ module _ (s : List ℕ) where
             mark = ap is_text (sym moved) ∙ sym (text_front rest c w e some) ∙ mark;
             some = some;
             within = omega (arith, d.3, length-drop k (pattern_at s at));
-            nonzero = ltb-true 0 c (and_true (ltb 0 c) (good_text (drop w rest)) (sym (front_text rest c w e) ∙ rest-text)).0;
+            nonzero = ltb-true 0 c (and_true (ltb 0 c) (good_text (drop w rest)) (sym (front_text rest c w e) ∙ rest_text)).0;
           }
 
-      pub letter-ascii : (v : ℕ) → v ≡ number_at s (at + 5 + 8 * k) 8 → v ≤ 0x7F → LetterIs s at k (record { code = v; width = 1 })
-      letter-ascii v e i =
-          letter_is v 1 (ap char_of (rest-bytes (number_at s at 5) refl)
+      pub letter_ascii : (v : ℕ) → v ≡ number_at s (at + 5 + 8 * k) 8 → v ≤ 0x7F → LetterIs s at k (record { code = v; width = 1 })
+      letter_ascii v e i =
+          letter_is v 1 (ap char_of (rest_bytes (number_at s at 5) refl)
           ∙ ascii s (number_at s at 5 - k) (at + 5 + 8 * k) (let l = rest_some (number_at s at 5) refl in omega arith) v e i)
 
       module _ (n : ℕ) (e : n ≡ number_at s at 5) (r : Front.Front) (d : r ≡ front_of (char_of (bytes_at s (n - k) (at + 5 + 8 * k)))) where
-        pub letter-wide : (c w : ℕ) → r ≡ FrontIs.Is c w → LetterIs s at k (record { code = c; width = w })
-        letter-wide c w f = letter_is c w (ap char_of (rest-bytes n e) ∙ (front_is (char_of (bytes_at s (n - k) (at + 5 + 8 * k))) c w (sym d ∙ f)).0)
+        pub letter_wide : (c w : ℕ) → r ≡ FrontIs.Is c w → LetterIs s at k (record { code = c; width = w })
+        letter_wide c w f = letter_is c w (ap char_of (rest_bytes n e) ∙ (front_is (char_of (bytes_at s (n - k) (at + 5 + 8 * k))) c w (sym d ∙ f)).0)
 
         -- There is one.
-        pub letter-none : r ≡ FrontIs.Not → ⊥
-        letter-none f =
-            false≢true (sym (not_front rest (λ z. let l = length-drop k (pattern_at s at) in omega arith) (ap (λ (l : List ℕ). front_of (char_of l)) (rest-bytes n e) ∙ sym d ∙ f)) ∙ rest-text)
+        pub letter_none : r ≡ FrontIs.Not → ⊥
+        letter_none f =
+            false≢true (sym (not_front rest (λ z. let l = length-drop k (pattern_at s at) in omega arith) (ap (λ (l : List ℕ). front_of (char_of l)) (rest_bytes n e) ∙ sym d ∙ f)) ∙ rest_text)
 
   -- ---- alternatives
 

@@ -16,7 +16,7 @@ use Rattle.plate.specs.declared.Step.TheVariants.{To}
 use Rattle.plate.proofs.Place.{number_lt}
 use Rattle.plate.proofs.Windows.{number_append, front, part_is, shifted}
 use Rattle.plate.proofs.Fronts.{ascii_is, double_is, text_turn, text_end, first_decided}
-use Rattle.plate.proofs.Accepted.{by_digits, field_one, field_is, alternatives_turn, alternatives_end, three-4, key_is}
+use Rattle.plate.proofs.Accepted.{by_digits, field_one, field_is, alternatives_turn, alternatives_end, three_4, key_is}
 
 module _ (s : List ℕ) where
   -- Shifted by k, a window holds q of the bits behind.
@@ -110,7 +110,7 @@ module _ (s : List ℕ) where
       → To (at + (a + b + c)) ≡ fields_step s at
   three_fields at a b c e f g =
       ap To {x = at + (a + b + c)} {y = at + a + b + c} (omega arith)
-      ∙ three-4 (λ p. good_field (field_at s p)) (λ p. field_end s p) at (To (at + a)) e (at + a) refl (To (at + a + b)) f (at + a + b) refl (To (at + a + b + c)) g
+      ∙ three_4 (λ p. good_field (field_at s p)) (λ p. field_end s p) at (To (at + a)) e (at + a) refl (To (at + a + b)) f (at + a + b) refl (To (at + a + b + c)) g
       (at + a + b + c) refl
 
   -- ---- foldings

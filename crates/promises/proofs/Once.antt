@@ -1,4 +1,4 @@
--- No code is listed twice: the codes of the uses are distinct (branches, Choice.listed-once), and each stands at its own place. Assumes nothing.
+-- No code is listed twice: the codes of the uses are distinct (branches, Choice.listed_once), and each stands at its own place. Assumes nothing.
 use Prim.Native.Nat.{ℕ, zero, suc, ◌<◌}
 use mathlib.Core.Path.{◌≡◌, refl, sym, ap, subst, ◌∙◌}
 use mathlib.Core.List.{List, [], ◌∷◌}

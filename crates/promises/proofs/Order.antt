@@ -1,5 +1,5 @@
 -- M-113, from sayings to calls: of each pattern a plate holds the rules said in their order, and each key folds to its last target. So the plates that two
--- orders say have the same first rule for each pattern and fold alike, and the calls by them answer alike (order, Calls.same-answers). Assumes nothing.
+-- orders say have the same first rule for each pattern and fold alike, and the calls by them answer alike (order, Calls.same_answers). Assumes nothing.
 use Prim.Native.Nat.{ℕ}
 use mathlib.Core.Path.{◌≡◌, refl, sym, ap, ap₂, subst, ◌∙◌}
 use mathlib.Core.Bool.{Bool, true, false, cond, false≢true}

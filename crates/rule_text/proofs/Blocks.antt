@@ -44,12 +44,12 @@ module _ (l : List ℕ) where
       unfolding closing pair_at
       at = rw (drop-cons l i 0, next, add-one)
 
-      pub closing-step : pair_at l i star slash ≡ false → later i (closing (drop i l)) ≡ later (i + 1) (closing (drop (i + 1) l))
-      closing-step e = ap (later i) (at ∙ ap (λ (t : Bool). cond t (R.To 0) (later 1 (closing (drop (i + 1) l)))) e) ∙ later_one i (closing (drop (i + 1) l))
+      pub closing_step : pair_at l i star slash ≡ false → later i (closing (drop i l)) ≡ later (i + 1) (closing (drop (i + 1) l))
+      closing_step e = ap (later i) (at ∙ ap (λ (t : Bool). cond t (R.To 0) (later 1 (closing (drop (i + 1) l)))) e) ∙ later_one i (closing (drop (i + 1) l))
 
-      pub closing-hit : pair_at l i star slash ≡ true → later i (closing (drop i l)) ≡ R.To i
+      pub closing_hit : pair_at l i star slash ≡ true → later i (closing (drop i l)) ≡ R.To i
       unfolding later
-      closing-hit e = ap (later i) (at ∙ ap (λ (t : Bool). cond t (R.To 0) (later 1 (closing (drop (i + 1) l)))) e) ∙ ap R.To (add-zero i)
+      closing_hit e = ap (later i) (at ∙ ap (λ (t : Bool). cond t (R.To 0) (later 1 (closing (drop (i + 1) l)))) e) ∙ ap R.To (add-zero i)
 
   -- ---- the ways out
 

@@ -33,13 +33,13 @@ module _ (l : List ℕ) where
     ending_newline e = rw (ne_eqb _ _ n, eq-eqb _ _ e)
 
     module _ (f : get_or l 0 0 ≡ newline → ⊥) where
-      pub ending-return : pair_at l 0 return newline ≡ true → ending l ≡ To 2
+      pub ending_return : pair_at l 0 return newline ≡ true → ending l ≡ To 2
       unfolding ending
-      ending-return e = rw (ne_eqb _ _ n, ne_eqb _ _ f, e)
+      ending_return e = rw (ne_eqb _ _ n, ne_eqb _ _ f, e)
 
-      pub ending-none : pair_at l 0 return newline ≡ false → ending l ≡ No
+      pub ending_none : pair_at l 0 return newline ≡ false → ending l ≡ No
       unfolding ending
-      ending-none e = rw (ne_eqb _ _ n, ne_eqb _ _ f, e)
+      ending_none e = rw (ne_eqb _ _ n, ne_eqb _ _ f, e)
 
   module _ (n m : ℕ) (r : Reach) (e : n ≡ blanks l) (f : m ≡ comment (lent n l)) (g : r ≡ ending (lent m (lent n l))) where
     line : later n (later m r) ≡ end_of_line l

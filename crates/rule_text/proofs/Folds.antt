@@ -31,14 +31,14 @@ module _ (l : List ℕ) where
     none_2 e = rw (e1, ne_eqb _ _ e)
 
     module _ (q : get_or l n 0 ≡ equals) where
-      pub none-3 : letter_at l (n + 1) ≡ S.No → folding l ≡ No
+      pub none_3 : letter_at l (n + 1) ≡ S.No → folding l ≡ No
       unfolding folding
-      none-3 e = rw (e1, eq-eqb _ _ q, e)
+      none_3 e = rw (e1, eq-eqb _ _ q, e)
 
       module _ {target m : ℕ} (e2 : letter_at l (n + 1) ≡ S.Is target m) where
-        pub none-4 : line_at l m ≡ R.No → folding l ≡ No
+        pub none_4 : line_at l m ≡ R.No → folding l ≡ No
         unfolding folding
-        none-4 e = rw (e1, eq-eqb _ _ q, e2, e)
+        none_4 e = rw (e1, eq-eqb _ _ q, e2, e)
 
         pub folds : {next : ℕ} → line_at l m ≡ R.To next → folding l ≡ Folds key target next
         unfolding folding

@@ -97,19 +97,19 @@ module _ (l : List ℕ) where
     none_2 e = rw (e1, e)
 
     module _ {s s' b : ℕ} (e2 : part_at l a ≡ Held s s' b) where
-      pub none-3 : part_at l b ≡ No → quadruplet l ≡ P.No
+      pub none_3 : part_at l b ≡ No → quadruplet l ≡ P.No
       unfolding quadruplet
-      none-3 e = rw (e1, e2, e)
+      none_3 e = rw (e1, e2, e)
 
       module _ {v v' c : ℕ} (e3 : part_at l b ≡ Held v v' c) where
-        pub none-4 : part_at l c ≡ No → quadruplet l ≡ P.No
+        pub none_4 : part_at l c ≡ No → quadruplet l ≡ P.No
         unfolding quadruplet
-        none-4 e = rw (e1, e2, e3, e)
+        none_4 e = rw (e1, e2, e3, e)
 
         module _ {o o' d : ℕ} (e4 : part_at l c ≡ Held o o' d) where
-          pub none-5 : line_at l d ≡ R.No → quadruplet l ≡ P.No
+          pub none_5 : line_at l d ≡ R.No → quadruplet l ≡ P.No
           unfolding quadruplet
-          none-5 e = rw (e1, e2, e3, e4, e)
+          none_5 e = rw (e1, e2, e3, e4, e)
 
           pub four : {next : ℕ} → line_at l d ≡ R.To next
               → quadruplet l ≡ P.Four (record { pattern = span p p'; start = span s s'; vowel = span v v'; other = span o o'; next = next })

@@ -16,12 +16,12 @@ span start end = record { start = start; end = end }
 abbrev four : Four
 four = record { pattern = span 1 5; start = span 8 9; vowel = span 12 13; other = span 16 17; next = 18 }
 
-rule-first :
+rule_first :
     (quadruplet (bytes "\"=x//\" \"1\" \"1\" \"1\"") ≡ P.Four four)
     × (folding (bytes "\"=x//\" \"1\" \"1\" \"1\"") ≡ F.Folds 0x22 0x78 18)
     × (entry (bytes "\"=x//\" \"1\" \"1\" \"1\"") ≡ E.Rule four)
 unfolding entry quadruplet folding multiline_comment end_of_line ending comment blanks until later pair_at line_at part plain escaped part_at letter_at
-rule-first = (refl, refl, refl)
+rule_first = (refl, refl, refl)
 
 folding_first : (folding (bytes "\n=x") ≡ F.Folds 0x0A 0x78 3) × (end_of_line (bytes "\n=x") ≡ R.To 1) × (entry (bytes "\n=x") ≡ E.Folding 0x0A 0x78 3)
 unfolding entry quadruplet folding multiline_comment end_of_line ending comment blanks until later pair_at line_at part plain escaped part_at letter_at

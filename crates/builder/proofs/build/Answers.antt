@@ -15,7 +15,7 @@ use Rattle.book.proofs.Scripts.{plate_length}
 use Rattle.builder.specs.Build.{verdict, answered, build_answer}
 use Rattle.builder.specs.Survey.{view, SurveyIs}
 use Rattle.builder.specs.declared.survey.Surveyed.TheVariants as Surveyed
-use Rattle.builder.proofs.Replies.{too_long, not_text, holds-zero, read, faulty, no_room, plate-built}
+use Rattle.builder.proofs.Replies.{too_long, not_text, holds_zero, read, faulty, no_room, plate_built}
 use Rattle.builder.proofs.build.Tie as tie
 use Rattle.builder.proofs.build.Lts as places
 use Rattle.builder.proofs.build.Reads as reads
@@ -77,7 +77,7 @@ returns-in_default c =
 pub returns-then-holds_zero : goal.returns-then-holds_zero
 returns-then-holds_zero c =
     let a = c.args in
-    holds-zero a.text.now a.flag a.out.now c.if-text-gt-LONGEST_TEXT.false c.in-Text.holds_zero c.check_text.ensures
+    holds_zero a.text.now a.flag a.out.now c.if-text-gt-LONGEST_TEXT.false c.in-Text.holds_zero c.check_text.ensures
     c.in-Text.is c.if-holds_zero.true
 
 pub survey-requires : goal.survey-requires
@@ -123,5 +123,5 @@ returns-else-out-tally c =
     let e = size c.before.before.before.before.before.before.before.before.before.before in
     let r = c.write_plate.ensures.1 in
     let room : c.write_plate.result ≤ length a.out.now = omega arith in
-    plate-built a.text.now a.flag a.out.now (decides c.before.before.before.before.before.before.before.before.before.before.before.before.before.before.before.before.before.before) (book c.before.before.before.before.before.before.before.before.before.before) (fine c.before.before.before.before.before.before.before.before.before.before).2 c.write_plate.result c.write_plate.new.out room
+    plate_built a.text.now a.flag a.out.now (decides c.before.before.before.before.before.before.before.before.before.before.before.before.before.before.before.before.before.before) (book c.before.before.before.before.before.before.before.before.before.before) (fine c.before.before.before.before.before.before.before.before.before.before).2 c.write_plate.result c.write_plate.new.out room
     c.write_plate.ensures

@@ -1,4 +1,4 @@
--- `put_line` meets its contract: a newline behind what list gives (Putting.puts-byte). Assumes nothing.
+-- `put_line` meets its contract: a newline behind what list gives (Putting.puts_byte). Assumes nothing.
 use native.Mathlib.Omega.{arith}
 use Rattle.ward.proofs.Putting.{puts_byte}
 use Rattle.ward.proofs.put_line.Goals as goal

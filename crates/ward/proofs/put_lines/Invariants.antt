@@ -1,5 +1,5 @@
 -- `put_lines` meets its contract. The loop keeps: the names before this place have their lines, and for the others there is room (Putting.Done). A turn is
--- Putting.next-done, the end Putting.all_done. Assumes nothing.
+-- Putting.next_done, the end Putting.all_done. Assumes nothing.
 use Prim.Native.Nat.{◌-◌}
 use lib.ListN.{length}
 use Rattle.ward.proofs.Putting.{Done}

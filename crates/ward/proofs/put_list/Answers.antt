@@ -1,5 +1,5 @@
--- `put_list` meets its contract: what is coded is what list gives into the first 447 bytes (`answered`); codes stand (Putting.puts-codes), and for a refusal nothing
--- was changed and its number is put (Putting.puts-refusal). Assumes nothing.
+-- `put_list` meets its contract: what is coded is what list gives into the first 447 bytes (`answered`); codes stand (Putting.puts_codes), and for a refusal nothing
+-- was changed and its number is put (Putting.puts_refusal). Assumes nothing.
 use mathlib.Core.Path.{◌≡◌, refl, sym, ap, ◌∙◌}
 use native.Mathlib.Omega.{arith}
 use lib.ListN.{take}

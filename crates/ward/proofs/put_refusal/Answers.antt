@@ -1,4 +1,4 @@
--- `put_refusal` meets its contract: three bytes are stored, and there is room for them (Putting.puts-three). Assumes nothing.
+-- `put_refusal` meets its contract: three bytes are stored, and there is room for them (Putting.puts_three). Assumes nothing.
 use native.Mathlib.Omega.{arith}
 use lib.ListN.{length-set}
 use Rattle.ward.proofs.Putting.{puts_three}

@@ -5,7 +5,7 @@ use Prim.Native.Nat.{◌<◌, ◌≤◌}
 use native.Mathlib.Omega.{arith}
 use lib.ListN.{length}
 use Rattle.laws.specs.Lists.{split_at}
-use Rattle.book.proofs.Fields.{sound_start, sound_end, sound_sep, sound-low, sound-high, sound-full, sound_more}
+use Rattle.book.proofs.Fields.{sound_start, sound_end, sound_sep, sound_low, sound_high, sound_full, sound_more}
 use Rattle.book.proofs.field.all_digits.Goals as goal
 
 pub loop-i-init : goal.loop-i-init
@@ -23,21 +23,21 @@ returns-then-x-lt48 c =
     let a = c.args in
     let p = c.loop-i in
     let h : p.i < length a.field.now = omega arith in
-    sym (sound-low a.sep a.field.now p.i p.run h c.if-x-sep.false c.if-x-lt48.true) ∙ p.invariant.2
+    sym (sound_low a.sep a.field.now p.i p.run h c.if-x-sep.false c.if-x-lt48.true) ∙ p.invariant.2
 
 pub returns-then-x-gt57 : goal.returns-then-x-gt57
 returns-then-x-gt57 c =
     let a = c.args in
     let p = c.loop-i in
     let h : p.i < length a.field.now = omega arith in
-    sym (sound-high a.sep a.field.now p.i p.run h c.if-x-sep.false c.if-x-gt57.true) ∙ p.invariant.2
+    sym (sound_high a.sep a.field.now p.i p.run h c.if-x-sep.false c.if-x-gt57.true) ∙ p.invariant.2
 
 pub returns-then-run-eq-MOST_DIGITS : goal.returns-then-run-eq-MOST_DIGITS
 returns-then-run-eq-MOST_DIGITS c =
     let a = c.args in
     let p = c.loop-i in
     let h : p.i < length a.field.now = omega arith in
-    sym (sound-full a.sep a.field.now p.i p.run h c.if-x-sep.false c.if-run-eq-MOST_DIGITS.true) ∙ p.invariant.2
+    sym (sound_full a.sep a.field.now p.i p.run h c.if-x-sep.false c.if-run-eq-MOST_DIGITS.true) ∙ p.invariant.2
 
 pub loop-i-preserved : goal.loop-i-preserved
 loop-i-preserved c =

@@ -6,7 +6,7 @@ use Rattle.plate.specs.Plate.{Rule}
 use Rattle.book.specs.Book.{rule_of}
 use Rattle.book.specs.Note.{FieldIs}
 use Rattle.book.specs.declared.note.Judged.TheVariants.{Fine}
-use Rattle.book.proofs.Ways.{rule_empty, rule_long, start-wrong, vowel-wrong, other-wrong, rule-full, rule-fine}
+use Rattle.book.proofs.Ways.{rule_empty, rule_long, start_wrong, vowel_wrong, other_wrong, rule_full, rule_fine}
 use Rattle.book.proofs.Measures.{rule_length}
 use Rattle.book.proofs.note.measure_rule.Tie as tie
 use Rattle.book.proofs.note.measure_rule.Lts as places
@@ -58,19 +58,19 @@ returns-then-pattern-gt-LONGEST_PATTERN c =
 
 pub returns-in_default : goal.returns-in_default
 returns-in_default c =
-    start-wrong (rule c.before.before.before) c.args.rules c.if-pattern-eq0.false c.if-pattern-gt-LONGEST_PATTERN.false c.in_default.field-0 c.measure_field-first.ensures c.in_default.is
+    start_wrong (rule c.before.before.before) c.args.rules c.if-pattern-eq0.false c.if-pattern-gt-LONGEST_PATTERN.false c.in_default.field-0 c.measure_field-first.ensures c.in_default.is
 
 pub returns-in_default-second : goal.returns-in_default-second
 returns-in_default-second c =
-    vowel-wrong (rule c.before.before.before.before.before) (rules-1 c.before.before.before) c.if-pattern-eq0.false c.if-pattern-gt-LONGEST_PATTERN.false (s c.before.before.before).0 c.in_default-second.field-0 c.measure_field-second.ensures c.in_default-second.is
+    vowel_wrong (rule c.before.before.before.before.before) (rules-1 c.before.before.before) c.if-pattern-eq0.false c.if-pattern-gt-LONGEST_PATTERN.false (s c.before.before.before).0 c.in_default-second.field-0 c.measure_field-second.ensures c.in_default-second.is
 
 pub returns-in_default-third : goal.returns-in_default-third
 returns-in_default-third c =
-    other-wrong (rule c.before.before.before.before.before.before.before) (rules-1 c.before.before.before.before.before) c.if-pattern-eq0.false c.if-pattern-gt-LONGEST_PATTERN.false (s c.before.before.before.before.before).0 (v c.before.before.before).0 c.in_default-third.field-0 c.measure_field-third.ensures c.in_default-third.is
+    other_wrong (rule c.before.before.before.before.before.before.before) (rules-1 c.before.before.before.before.before) c.if-pattern-eq0.false c.if-pattern-gt-LONGEST_PATTERN.false (s c.before.before.before.before.before).0 (v c.before.before.before).0 c.in_default-third.field-0 c.measure_field-third.ensures c.in_default-third.is
 
 pub returns-then-rules-ge-MOST_RULES : goal.returns-then-rules-ge-MOST_RULES
 returns-then-rules-ge-MOST_RULES c =
-    rule-full (rule c.before.before.before.before.before.before.before.before) (rules-1 c.before.before.before.before.before.before) c.if-pattern-eq0.false c.if-pattern-gt-LONGEST_PATTERN.false (s c.before.before.before.before.before.before).0 (v c.before.before.before.before).0 (o c.before.before).0 c.if-rules-ge-MOST_RULES.true
+    rule_full (rule c.before.before.before.before.before.before.before.before) (rules-1 c.before.before.before.before.before.before) c.if-pattern-eq0.false c.if-pattern-gt-LONGEST_PATTERN.false (s c.before.before.before.before.before.before).0 (v c.before.before.before.before).0 (o c.before.before).0 c.if-rules-ge-MOST_RULES.true
 
 pub overflow_add-result-2 : goal.overflow_add-result-2
 overflow_add-result-2 c = let few = small c.before.before in omega (arith, few.0, few.1, few.2, few.3)
@@ -84,7 +84,7 @@ overflow_add-result-4 c = let few = small c.before.before in omega (arith, few.0
 pub returns : goal.returns
 returns c =
     let few = small c.before.before in (
-      rule-fine (rule c.before.before.before.before.before.before.before.before) (rules-1 c.before.before.before.before.before.before) c.if-pattern-eq0.false c.if-pattern-gt-LONGEST_PATTERN.false (s c.before.before.before.before.before.before).0 (v c.before.before.before.before).0 (o c.before.before).0 c.if-rules-ge-MOST_RULES.false,
+      rule_fine (rule c.before.before.before.before.before.before.before.before) (rules-1 c.before.before.before.before.before.before) c.if-pattern-eq0.false c.if-pattern-gt-LONGEST_PATTERN.false (s c.before.before.before.before.before.before).0 (v c.before.before.before.before).0 (o c.before.before).0 c.if-rules-ge-MOST_RULES.false,
       rule_length (rule c.before.before.before.before.before.before.before.before) _ _ _ (s c.before.before.before.before.before.before).1 (v c.before.before.before.before).1
           (o c.before.before).1,
       omega (arith, few.0, few.1, few.2, few.3),

@@ -7,7 +7,7 @@ use lib.Dec.{lit<}
 use lib.Pow.{pow_pos}
 use Rattle.plate.specs.Bits.{bits_of}
 use Rattle.book.proofs.Inks.{ready_as, wrote_as}
-use Rattle.book.proofs.Scripts.{ready_number, ready_rules, ready-foldings, ready-flag, ready-zeros, wrote-head}
+use Rattle.book.proofs.Scripts.{ready_number, ready_rules, ready_foldings, ready_flag, ready_zeros, wrote_head}
 use Rattle.book.proofs.write.put_counts.Goals as goal
 
 pub put-first-requires : goal.put-first-requires
@@ -26,7 +26,7 @@ put-third-requires c =
     let a = c.args in (
       omega arith,
       lt_of_le_of_lt c.requires.0.few (lit< tt),
-      ready-foldings a.number a.width a.rules a.foldings a.flag c.requires.1 c.put-first.ensures c.put-second.ensures,
+      ready_foldings a.number a.width a.rules a.foldings a.flag c.requires.1 c.put-first.ensures c.put-second.ensures,
     )
 
 pub put-fourth-requires : goal.put-fourth-requires
@@ -35,7 +35,7 @@ put-fourth-requires c =
       omega arith,
       c.bit.ensures.1,
       ready_as (ap (bits_of 1) (sym c.bit.ensures.0))
-          (ready-flag a.number a.width a.rules a.foldings a.flag c.requires.1 c.put-first.ensures c.put-second.ensures c.put-third.ensures),
+          (ready_flag a.number a.width a.rules a.foldings a.flag c.requires.1 c.put-first.ensures c.put-second.ensures c.put-third.ensures),
     )
 
 pub overflow_sub-width : goal.overflow_sub-width
@@ -47,12 +47,12 @@ put-requires c =
     let a = c.args in (
       omega arith,
       pow_pos (15 - a.width),
-      ready-zeros a.number a.width a.rules a.foldings a.flag c.requires.1 c.put-first.ensures c.put-second.ensures c.put-third.ensures
+      ready_zeros a.number a.width a.rules a.foldings a.flag c.requires.1 c.put-first.ensures c.put-second.ensures c.put-third.ensures
           (wrote_as (ap (bits_of 1) c.bit.ensures.0) c.put-fourth.ensures),
     )
 
 pub returns : goal.returns
 returns c =
     let a = c.args in
-    wrote-head a.number a.width a.rules a.foldings a.flag c.requires.1 c.put-first.ensures c.put-second.ensures c.put-third.ensures
+    wrote_head a.number a.width a.rules a.foldings a.flag c.requires.1 c.put-first.ensures c.put-second.ensures c.put-third.ensures
     (wrote_as (ap (bits_of 1) c.bit.ensures.0) c.put-fourth.ensures) c.put.ensures

@@ -1,10 +1,10 @@
--- `write::put_parts` meets its contract: five parts, one behind the other (Scripts.wrote-rule). Assumes nothing.
+-- `write::put_parts` meets its contract: five parts, one behind the other (Scripts.wrote_rule). Assumes nothing.
 use native.Mathlib.Omega.{arith}
 use Rattle.plate.specs.Plate.{Rule}
 use Rattle.book.specs.Book.{rule_of}
 use Rattle.book.proofs.Faults.{Clean, clean}
 use Rattle.book.proofs.Runs.{bytes_fit}
-use Rattle.book.proofs.Scripts.{ready_count, ready_bytes, ready-start, ready-vowel, ready-other, wrote-rule}
+use Rattle.book.proofs.Scripts.{ready_count, ready_bytes, ready_start, ready_vowel, ready_other, wrote_rule}
 use Rattle.book.proofs.write.put_parts.Tie as tie
 use Rattle.book.proofs.write.put_parts.Lts as places
 use Rattle.book.proofs.write.put_parts.Reads as reads
@@ -31,23 +31,23 @@ put_run-first-requires c = (
 
 pub put_field-second-requires : goal.put_field-second-requires
 put_field-second-requires c =
-    ((fine c.before.before.before.before.before.before.before.before.before).start, ready-start (rule c.before.before.before.before.before.before.before.before.before) c.requires.1 c.put-counted.ensures c.put_run-first.ensures)
+    ((fine c.before.before.before.before.before.before.before.before.before).start, ready_start (rule c.before.before.before.before.before.before.before.before.before) c.requires.1 c.put-counted.ensures c.put_run-first.ensures)
 
 pub put_field-third-requires : goal.put_field-third-requires
 put_field-third-requires c = (
   (fine c.before.before.before.before.before.before.before.before.before.before.before.before.before).vowel,
-  ready-vowel (rule c.before.before.before.before.before.before.before.before.before.before.before.before.before) c.requires.1 c.put-counted.ensures c.put_run-first.ensures
+  ready_vowel (rule c.before.before.before.before.before.before.before.before.before.before.before.before.before) c.requires.1 c.put-counted.ensures c.put_run-first.ensures
       c.put_field-second.ensures,
 )
 
 pub put_field-requires : goal.put_field-requires
 put_field-requires c = (
   (fine c.before.before.before.before.before.before.before.before.before.before.before.before.before.before.before.before.before).other,
-  ready-other (rule c.before.before.before.before.before.before.before.before.before.before.before.before.before.before.before.before.before) c.requires.1 c.put-counted.ensures c.put_run-first.ensures
+  ready_other (rule c.before.before.before.before.before.before.before.before.before.before.before.before.before.before.before.before.before) c.requires.1 c.put-counted.ensures c.put_run-first.ensures
       c.put_field-second.ensures c.put_field-third.ensures,
 )
 
 pub returns : goal.returns
 returns c =
-    wrote-rule (rule c.before.before.before.before.before.before.before.before.before.before.before.before.before.before.before.before.before.before.before.before) c.requires.1 c.put-counted.ensures c.put_run-first.ensures
+    wrote_rule (rule c.before.before.before.before.before.before.before.before.before.before.before.before.before.before.before.before.before.before.before.before) c.requires.1 c.put-counted.ensures c.put_run-first.ensures
     c.put_field-second.ensures c.put_field-third.ensures c.put_field.ensures

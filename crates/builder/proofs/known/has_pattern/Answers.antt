@@ -1,4 +1,4 @@
--- `known::has_pattern` meets its contract. At the place of a key stands the rule that was noted there (Again.viewed-again). Assumes nothing.
+-- `known::has_pattern` meets its contract. At the place of a key stands the rule that was noted there (Again.viewed_again). Assumes nothing.
 use Prim.Native.Nat.{ℕ}
 use mathlib.Core.Path.{◌≡◌, sym, ◌∙◌, ap}
 use mathlib.Core.List.{List}
@@ -10,7 +10,7 @@ use Rattle.rule_text.specs.Answers.{Lies}
 use Rattle.plate.specs.Plate.{Rule}
 use Rattle.book.specs.Note.{place_in}
 use Rattle.builder.specs.Survey.{rule_in, view}
-use Rattle.builder.proofs.Again.{noted_rule, other_arm, viewed-again}
+use Rattle.builder.proofs.Again.{noted_rule, other_arm, viewed_again}
 use Rattle.builder.proofs.known.has_pattern.Tie as tie
 use Rattle.builder.proofs.known.has_pattern.Lts as places
 use Rattle.builder.proofs.known.has_pattern.Reads as reads
@@ -23,7 +23,7 @@ After-known_told = places.Past-After-known_told tie.the-claims reads.Pre reads.P
 again : (c : After-known_told) → let a = c.args in
     view a.text.now (place_in a.key) ≡ rule_in (lent (place_in a.key) a.text.now) c.in-Rule.four
 again c =
-    viewed-again c.args.text.now c.args.key c.item.ensures.0 c.requires c.in-Rule.four c.in-Rule.is
+    viewed_again c.args.text.now c.args.key c.item.ensures.0 c.requires c.in-Rule.four c.in-Rule.is
 
 pub returns-in_default : goal.returns-in_default
 returns-in_default c =

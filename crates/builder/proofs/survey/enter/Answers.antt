@@ -9,7 +9,7 @@ use Rattle.rule_text.specs.Answers.{Lies, FourIn, FoldingIn}
 use Rattle.rule_text.specs.declared.Four.{Four}
 use Rattle.rule_text.specs.declared.Entry.TheVariants as E
 use Rattle.builder.specs.Survey.{TurnIs}
-use Rattle.builder.proofs.Turns.{held, low, behind-low, line_end_turn, comment_turn, unknown_turn, folding-turn, rule-turn}
+use Rattle.builder.proofs.Turns.{held, low, behind_low, line_end_turn, comment_turn, unknown_turn, folding_turn, rule_turn}
 use Rattle.builder.proofs.survey.enter.Tie as tie
 use Rattle.builder.proofs.survey.enter.Lts as places
 use Rattle.builder.proofs.survey.enter.Reads as reads
@@ -50,7 +50,7 @@ note_four-requires c =
 pub overflow_add-at : goal.overflow_add-at
 overflow_add-at c =
     let a = c.args in
-    let n = behind-low a.text.now a.at a.tally a.keys.now a.seen.now a.foldings.now c.requires.0 c.requires.1 (E.Rule (four c.before.before.before.before.before.before.before.before.before))
+    let n = behind_low a.text.now a.at a.tally a.keys.now a.seen.now a.foldings.now c.requires.0 c.requires.1 (E.Rule (four c.before.before.before.before.before.before.before.before.before))
     c.item.ensures c.in-Rule.is in
     omega arith
 
@@ -61,20 +61,20 @@ note_folding-requires c =
 pub overflow_add-at-in-Folding : goal.overflow_add-at-in-Folding
 overflow_add-at-in-Folding c =
     let a = c.args in
-    let n = behind-low a.text.now a.at a.tally a.keys.now a.seen.now a.foldings.now c.requires.0 c.requires.1
+    let n = behind_low a.text.now a.at a.tally a.keys.now a.seen.now a.foldings.now c.requires.0 c.requires.1
     (E.Folding c.in-Folding.key c.in-Folding.target c.in-Folding.next) c.item.ensures c.in-Folding.is in
     omega arith
 
 pub overflow_add-result : goal.overflow_add-result
 overflow_add-result c =
     let a = c.args in
-    let n = behind-low a.text.now a.at a.tally a.keys.now a.seen.now a.foldings.now c.requires.0 c.requires.1 (E.LineEnd c.in-LineEnd.next) c.item.ensures c.in-LineEnd.is in
+    let n = behind_low a.text.now a.at a.tally a.keys.now a.seen.now a.foldings.now c.requires.0 c.requires.1 (E.LineEnd c.in-LineEnd.next) c.item.ensures c.in-LineEnd.is in
     omega arith
 
 pub overflow_add-result-in-Comment : goal.overflow_add-result-in-Comment
 overflow_add-result-in-Comment c =
     let a = c.args in
-    let n = behind-low a.text.now a.at a.tally a.keys.now a.seen.now a.foldings.now c.requires.0 c.requires.1 (E.Comment c.in-Comment.next) c.item.ensures c.in-Comment.is in
+    let n = behind_low a.text.now a.at a.tally a.keys.now a.seen.now a.foldings.now c.requires.0 c.requires.1 (E.Comment c.in-Comment.next) c.item.ensures c.in-Comment.is in
     omega arith
 
 pub returns-in-Rule : goal.returns-in-Rule
@@ -82,7 +82,7 @@ returns-in-Rule c =
     let a = c.args in
     let n = c.note_four in
     subst (TurnIs a.text.now a.at a.tally a.keys.now a.foldings.now n.new.keys n.new.seen a.foldings.now) (sym c.behind.ensures)
-    (rule-turn a.text.now a.at a.tally a.keys.now a.seen.now a.foldings.now c.requires.0 c.requires.1 (four c.before.before.before.before.before.before.before.before.before.before) c.item.ensures c.in-Rule.is
+    (rule_turn a.text.now a.at a.tally a.keys.now a.seen.now a.foldings.now c.requires.0 c.requires.1 (four c.before.before.before.before.before.before.before.before.before.before) c.item.ensures c.in-Rule.is
     n.new.keys n.new.seen n.result n.ensures)
 
 pub returns-in-Folding : goal.returns-in-Folding
@@ -90,7 +90,7 @@ returns-in-Folding c =
     let a = c.args in
     let n = c.note_folding in
     subst (TurnIs a.text.now a.at a.tally a.keys.now a.foldings.now a.keys.now a.seen.now n.new.foldings) (sym c.behind-in-Folding.ensures)
-    (folding-turn a.text.now a.at a.tally a.keys.now a.seen.now a.foldings.now c.requires.0 c.requires.1 c.in-Folding.key c.in-Folding.target c.in-Folding.next
+    (folding_turn a.text.now a.at a.tally a.keys.now a.seen.now a.foldings.now c.requires.0 c.requires.1 c.in-Folding.key c.in-Folding.target c.in-Folding.next
     c.item.ensures c.in-Folding.is n.new.foldings n.result n.ensures)
 
 pub returns-in-LineEnd : goal.returns-in-LineEnd

@@ -1,6 +1,6 @@
--- `write::write_plate` meets its contract: head, foldings and rules, one behind the other, and the last byte filled (Scripts.wrote-plate). Assumes nothing.
+-- `write::write_plate` meets its contract: head, foldings and rules, one behind the other, and the last byte filled (Scripts.wrote_plate). Assumes nothing.
 use native.Mathlib.Omega.{arith}
-use Rattle.book.proofs.Scripts.{ready_head, ready-pairs, ready-keys, ready-end, wrote-plate}
+use Rattle.book.proofs.Scripts.{ready_head, ready_pairs, ready_keys, ready_end, wrote_plate}
 use Rattle.builder.specs.Survey.{view}
 use Rattle.builder.proofs.write.write_plate.Goals as goal
 
@@ -20,7 +20,7 @@ put_pairs-folded-requires c =
     let m = k.pairs.room in (
       omega arith,
       k.pairs.small,
-      ready-pairs (view a.text.now) a.tally a.keys.now a.foldings.now a.flag k c.requires.1 c.requires.2 c.start.ensures c.put_head-headed.ensures,
+      ready_pairs (view a.text.now) a.tally a.keys.now a.foldings.now a.flag k c.requires.1 c.requires.2 c.start.ensures c.put_head-headed.ensures,
     )
 
 pub put_rules-ruled-requires : goal.put_rules-ruled-requires
@@ -32,19 +32,19 @@ put_rules-ruled-requires c =
     let m = k.rules.room in (
       omega arith,
       k.sure,
-      ready-keys (view a.text.now) a.tally a.keys.now a.foldings.now a.flag k c.requires.1 c.requires.2 c.start.ensures
+      ready_keys (view a.text.now) a.tally a.keys.now a.foldings.now a.flag k c.requires.1 c.requires.2 c.start.ensures
           c.put_head-headed.ensures c.put_pairs-folded.ensures,
     )
 
 pub finish-requires : goal.finish-requires
 finish-requires c =
     let a = c.args in
-    ready-end (view a.text.now) a.tally a.keys.now a.foldings.now a.flag c.requires.0 c.requires.1 c.requires.2 c.start.ensures
+    ready_end (view a.text.now) a.tally a.keys.now a.foldings.now a.flag c.requires.0 c.requires.1 c.requires.2 c.start.ensures
     c.put_head-headed.ensures c.put_pairs-folded.ensures c.put_rules-ruled.ensures
 
 pub returns : goal.returns
 returns c =
     let a = c.args in
-    wrote-plate (view a.text.now) a.tally a.keys.now a.foldings.now a.flag c.requires.0 c.requires.1 c.requires.2 c.start.ensures
+    wrote_plate (view a.text.now) a.tally a.keys.now a.foldings.now a.flag c.requires.0 c.requires.1 c.requires.2 c.start.ensures
     c.put_head-headed.ensures c.put_pairs-folded.ensures c.put_rules-ruled.ensures
     c.finish.new.out c.finish.result c.finish.ensures

@@ -1,4 +1,4 @@
--- `lower::lower` meets its contract. Below U+0180 the entry is the lowercase (Lowering.latin-entry). Assumes nothing.
+-- `lower::lower` meets its contract. Below U+0180 the entry is the lowercase (Lowering.latin_entry). Assumes nothing.
 use mathlib.Core.Path.{ap, ◌∙◌}
 use mathlib.Core.List.{List}
 use Prim.Native.Nat.{ℕ}

@@ -1,4 +1,4 @@
--- `lower::lower_beyond` meets its contract: the entry of a character of the second table is its lowercase (Lowering.cyrillic-entry), and what has none is its own
+-- `lower::lower_beyond` meets its contract: the entry of a character of the second table is its lowercase (Lowering.cyrillic_entry), and what has none is its own
 -- (Lowering.untabled). Assumes nothing.
 use Prim.Native.Nat.{ℕ, ◌-◌, ◌≤◌}
 use mathlib.Core.Path.{sym, ap, ◌∙◌}

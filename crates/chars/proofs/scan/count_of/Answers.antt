@@ -1,5 +1,5 @@
 -- `scan::count_of` meets its contract. The loop keeps: the bytes that are b are those counted and those from here on.
--- A turn is Counts.count-hit or Counts.count-step, the way out Counts.count-end. Assumes nothing.
+-- A turn is Counts.count_hit or Counts.count_step, the way out Counts.count_end. Assumes nothing.
 use native.Mathlib.Omega.{arith}
 use Rattle.laws.proofs.Counts.{count_end, count_hit, count_step}
 use Rattle.chars.proofs.scan.count_of.Goals as goal

@@ -1,5 +1,5 @@
 -- `scan::count_until` meets its contract. The loop keeps: the bytes before the first b are those passed and those from here on.
--- A turn is Counts.until-step, the ways out Counts.until-hit and Counts.until_end. Assumes nothing.
+-- A turn is Counts.until_step, the ways out Counts.until_hit and Counts.until_end. Assumes nothing.
 use native.Mathlib.Omega.{arith}
 use Rattle.laws.proofs.Counts.{until_end, until_hit, until_step}
 use Rattle.chars.proofs.scan.count_until.Goals as goal

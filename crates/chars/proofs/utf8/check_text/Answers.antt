@@ -1,5 +1,5 @@
 -- `utf8::check_text` meets its contract. The loop keeps: the check from here on is the check from the start. A turn is
--- Checks.turn-plain, turn-zero or turn-other, the ways out are Checks.stop and Checks.done; each turn passes a byte at least, so the loop ends. Assumes nothing.
+-- Checks.turn_plain, turn-zero or turn-other, the ways out are Checks.stop and Checks.done; each turn passes a byte at least, so the loop ends. Assumes nothing.
 use mathlib.Core.Path.{◌∙◌}
 use Prim.Native.Nat.{◌<◌}
 use native.Mathlib.Omega.{arith}

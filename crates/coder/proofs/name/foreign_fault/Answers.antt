@@ -1,4 +1,4 @@
--- `name::foreign_fault` meets its contract: the check of the bytes from the place on decides (Chars.broken-behind, Chars.text-behind). Assumes nothing.
+-- `name::foreign_fault` meets its contract: the check of the bytes from the place on decides (Chars.broken_behind, Chars.text_behind). Assumes nothing.
 use borrow.Author.Rules.{rules}
 use Rattle.coder.proofs.Chars.{within, broken_behind, text_behind}
 use Rattle.coder.proofs.name.foreign_fault.Goals as goal

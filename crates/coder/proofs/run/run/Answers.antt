@@ -1,5 +1,5 @@
 -- `run::run` meets its contract. The loop keeps Steps.Left: what comes of the uses left and the branches held is what comes of all uses and the start. The
--- last use is Steps.done, one branch that meets one alternative Steps.used-by with Single.extended, any other step Steps.used_over or Steps.used-on. Each
+-- last use is Steps.done, one branch that meets one alternative Steps.used_by with Single.extended, any other step Steps.used_over or Steps.used_on. Each
 -- use stands behind the one before, so the loop ends. Assumes nothing.
 use Prim.Native.Nat.{◌≤◌, ◌<◌}
 use native.Mathlib.Omega.{arith}
@@ -11,7 +11,7 @@ use Rattle.plate.specs.Stands.{field_of}
 use Rattle.plate.specs.Field.{FieldOk, alternatives_of}
 use Rattle.branches.specs.Held.{branches_of}
 use Rattle.coder.proofs.Alternatives.{taken_field}
-use Rattle.coder.proofs.Steps.{no_room, begin, done, used-by, used_over, used-on}
+use Rattle.coder.proofs.Steps.{no_room, begin, done, used_by, used_over, used_on}
 use Rattle.coder.proofs.Single.{branch_ok, only_ok, extended_ok, extended, as_many}
 use Rattle.coder.proofs.run.run.Tie as tie
 use Rattle.coder.proofs.run.run.Lts as places
@@ -121,7 +121,7 @@ loop-u-preserved-then-one_meets_one c =
     let ok = c.extend.ensures.0 in
     let is = c.extend.ensures.1 in (
       extended_ok items n f l.invariant.0 good ones.0 ones.1 u.result.anyway e ok is,
-      used-by a.plate.now a.name.now a.most a.room l.started l.before l.at (branches_of l.bs) l.invariant.1 u.result u.ensures found
+      used_by a.plate.now a.name.now a.most a.room l.started l.before l.at (branches_of l.bs) l.invariant.1 u.result u.ensures found
           f (held c.before.before.before.before.before.before).1 _ (extended items n f l.invariant.0 good ones.0 ones.1 u.result.anyway e ok is)
           (as_many items n f l.invariant.0 good ones.0 ones.1 u.result.anyway e ok is),
     )
@@ -155,6 +155,6 @@ loop-u-preserved c =
     let u = c.next_use-u in
     let found = not-false c.next_use-u.result.found c.if-not-u.false in (
       c.step-s.ensures.1,
-      used-on a.plate.now a.name.now a.most a.room l.started l.before l.at (branches_of l.bs) l.invariant.1
+      used_on a.plate.now a.name.now a.most a.room l.started l.before l.at (branches_of l.bs) l.invariant.1
           u.result u.ensures found c.field_at-field.result (held c.before.before.before.before.before.before).1 c.step-s.result c.step-s.ensures c.if-s.false,
     )

@@ -1,5 +1,5 @@
 -- `run::run` meets its contract. The loop keeps Steps.Left: what comes of the uses left and the branches held is what comes of all uses and the start. The
--- last use is Steps.done, one branch that meets one alternative Steps.used-by with Single.extended, any other step Steps.used_over or Steps.used-on. Each
+-- last use is Steps.done, one branch that meets one alternative Steps.used_by with Single.extended, any other step Steps.used_over or Steps.used_on. Each
 -- use stands behind the one before, so the loop ends. Assumes nothing.
 use Prim.Native.Nat.{◌-◌}
 use lib.ListN.{length}

@@ -1,5 +1,5 @@
--- `walk::ahead_of` meets its contract: the bytes so far are the first i characters as one number (Compared.bytes-more), and at each way out they are shifted to
--- the front (Compared.in-front). Assumes nothing.
+-- `walk::ahead_of` meets its contract: the bytes so far are the first i characters as one number (Compared.bytes_more), and at each way out they are shifted to
+-- the front (Compared.in_front). Assumes nothing.
 use Prim.Native.Nat.{◌-◌, ◌≤◌}
 use mathlib.Core.Path.{◌≡◌}
 use Rattle.plate.specs.Stands.{packed}

@@ -1,5 +1,5 @@
 -- `walk::search` meets its contract. The loop over the group's rules keeps Groups.Left: the search from here on, in the group, is the search over all rules.
--- Most patterns are decided by the characters ahead (Compared.said-begins, Compared.said-not). The loop over a pattern's bytes keeps: what is left of the pattern begins the characters left exactly if the whole pattern begins them all. Assumes nothing.
+-- Most patterns are decided by the characters ahead (Compared.said_begins, Compared.said_not). The loop over a pattern's bytes keeps: what is left of the pattern begins the characters left exactly if the whole pattern begins them all. Assumes nothing.
 use Prim.Native.Nat.{ℕ, ◌+◌, ◌≤◌, ◌<◌}
 use mathlib.Core.Path.{◌≡◌, sym, ap, ◌∙◌}
 use mathlib.Core.Bool.{false}
@@ -12,7 +12,7 @@ use Rattle.plate.specs.Read.{pattern_at, rule_at}
 use Rattle.plate.specs.Stands.{Here, letters_from}
 use Rattle.plate.proofs.Parts.{mark_start}
 use Rattle.coder.specs.Walk.{letters}
-use Rattle.coder.proofs.Groups.{Left, left_start, left_end, left-hit, left-miss, has-place, stands, one_letter}
+use Rattle.coder.proofs.Groups.{Left, left_start, left_end, left_hit, left_miss, has_place, stands, one_letter}
 use Rattle.coder.proofs.Compared.{said_begins, said_not}
 use Rattle.coder.proofs.Patterns.{all, ends, differs, agrees, pattern_start, pattern_end}
 use Rattle.coder.proofs.walk.search.Tie as tie
@@ -50,7 +50,7 @@ room : (e : Else1) → e.rules.i < length (places_of e.before.before.before.befo
 room e =
     let p = e.requires in
     let r = e.group_of-group.result in
-    has-place (plate-of e.before.before.before.before) (places_of e.before.before.before.before) (rest_of e.before.before.before.before) r.first r.behind p.0 p.1.0 e.group_of-group.ensures p.2 e.rules.i e.if-group-i.false
+    has_place (plate-of e.before.before.before.before) (places_of e.before.before.before.before) (rest_of e.before.before.before.before) r.first r.behind p.0 p.1.0 e.group_of-group.ensures p.2 e.rules.i e.if-group-i.false
 
 here : (e : Else1) → Here (plate-of e.before.before.before.before) (place_of e)
 here e =
@@ -65,7 +65,7 @@ missed e b =
     let p = e.requires in
     let l = e.rules in
     let r = e.group_of-group.result in
-    left-miss (plate-of e.before.before.before.before) (places_of e.before.before.before.before) (rest_of e.before.before.before.before) r.first r.behind p.0 p.1.0 e.group_of-group.ensures p.2 l.i e.if-group-i.false l.invariant b
+    left_miss (plate-of e.before.before.before.before) (places_of e.before.before.before.before) (rest_of e.before.before.before.before) r.first r.behind p.0 p.1.0 e.group_of-group.ensures p.2 l.i e.if-group-i.false l.invariant b
 
 -- More of the pattern is left.
 short : (c : Else2)
@@ -196,7 +196,7 @@ returns-in-Is c =
     let some = one_letter s at (here c.before.before.before.before) in
     let counted = said.1 in
     let few = said.2 in record {
-      taken = left-hit s (places_of c.before.before.before.before.before.before.before.before) (rest_of c.before.before.before.before.before.before.before.before) found.first found.behind p.0 p.1.0 c.group_of-group.ensures p.2 turn.i c.if-group-i.false turn.invariant said.0;
+      taken = left_hit s (places_of c.before.before.before.before.before.before.before.before) (rest_of c.before.before.before.before.before.before.before.before) found.first found.behind p.0 p.1.0 c.group_of-group.ensures p.2 turn.i c.if-group-i.false turn.invariant said.0;
       here = here c.before.before.before.before;
       counted = counted;
       some = omega arith;
@@ -219,7 +219,7 @@ returns-then-n-k c =
     let z = ap length none_left in
     let some = one_letter s at (here c.before.before.before.before.before.before.before) in
     let whole = sym i.4 ∙ all (letters_from s at k) (rest_of c.before.before.before.before.before.before.before.before.before.before.before) c.bytes.j none_left in record {
-      taken = left-hit s (places_of c.before.before.before.before.before.before.before.before.before.before.before) (rest_of c.before.before.before.before.before.before.before.before.before.before.before) found.first found.behind p.0 p.1.0 c.group_of-group.ensures p.2 turn.i c.if-group-i.false turn.invariant whole;
+      taken = left_hit s (places_of c.before.before.before.before.before.before.before.before.before.before.before) (rest_of c.before.before.before.before.before.before.before.before.before.before.before) found.first found.behind p.0 p.1.0 c.group_of-group.ensures p.2 turn.i c.if-group-i.false turn.invariant whole;
       here = here c.before.before.before.before.before.before.before;
       counted = omega arith;
       some = omega arith;

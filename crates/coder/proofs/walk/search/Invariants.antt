@@ -1,5 +1,5 @@
 -- `walk::search` meets its contract. The loop over the group's rules keeps Groups.Left: the search from here on, in the group, is the search over all rules.
--- Most patterns are decided by the characters ahead (Compared.said-begins, Compared.said-not). The loop over a pattern's bytes keeps: what is left of the pattern begins the characters left exactly if the whole pattern begins them all. Assumes nothing.
+-- Most patterns are decided by the characters ahead (Compared.said_begins, Compared.said_not). The loop over a pattern's bytes keeps: what is left of the pattern begins the characters left exactly if the whole pattern begins them all. Assumes nothing.
 use Prim.Native.Nat.{◌+◌, ◌-◌, ◌≤◌}
 use mathlib.Core.Path.{◌≡◌}
 use lib.ListN.{length, drop}

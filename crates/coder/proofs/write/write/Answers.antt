@@ -1,5 +1,5 @@
--- `write::write` meets its contract. The loop keeps: the first k codes stand, joined, and behind them what was lent. A turn is Joined.bar or Joined.no-bar,
--- then Joined.put_on; the end is Joined.all-joined. Assumes nothing.
+-- `write::write` meets its contract. The loop keeps: the first k codes stand, joined, and behind them what was lent. A turn is Joined.bar or Joined.no_bar,
+-- then Joined.put_on; the end is Joined.all_joined. Assumes nothing.
 use Prim.Native.Nat.{ℕ, ◌+◌, ◌-◌, ◌*◌, ◌≤◌, ◌<◌}
 use mathlib.Core.Path.{◌≡◌, refl, sym, ap, ◌∙◌}
 use mathlib.Core.List.{List, ◌++◌}

@@ -8,7 +8,7 @@ use Rattle.plate.specs.Read.{accepted}
 use Rattle.plate.specs.Noted.{Noted}
 use Rattle.plate.proofs.Facts.{most_few}
 use Rattle.index.specs.Index.{good_index}
-use Rattle.index.proofs.Adding.{good_true, no_plate, many, not_good, no_note, no_room, room_for, all-added}
+use Rattle.index.proofs.Adding.{good_true, no_plate, many, not_good, no_note, no_room, room_for, all_added}
 use Rattle.index.proofs.add.add.Tie as tie
 use Rattle.index.proofs.add.add.Lts as places
 use Rattle.index.proofs.add.add.Reads as reads
@@ -98,5 +98,5 @@ overflow_add-result c =
 pub returns : goal.returns
 returns c =
     let a = c.args in
-    all-added a.plate.now a.name.now a.index.now a.used a.report.now a.noted (is_plate c.before.before.before.before.before.before.before.before.before.before.before.before.before.before.before.before.before) (is_good c.before.before.before.before.before.before.before.before.before.before.before.before.before.before) c.if-most-noted.false
+    all_added a.plate.now a.name.now a.index.now a.used a.report.now a.noted (is_plate c.before.before.before.before.before.before.before.before.before.before.before.before.before.before.before.before.before) (is_good c.before.before.before.before.before.before.before.before.before.before.before.before.before.before) c.if-most-noted.false
     _ c.list_name-l.result c.list_name-l.ensures c.if-report-noted.false c.if-index-used.false _ c.add_entries.ensures

@@ -1,6 +1,6 @@
 -- `add_entries` meets its contract: what is put and sorted apart, and then merged in front, is said by Added. Assumes nothing.
 use Rattle.index.proofs.Filling.{line_entries, line_count}
-use Rattle.index.proofs.Added.{front_long, front_whole, new_long, new_length, new_rises, lent-long, lent-whole, lent-more, old-rises, all-merged}
+use Rattle.index.proofs.Added.{front_long, front_whole, new_long, new_length, new_rises, lent_long, lent_whole, lent_more, old_rises, all_merged}
 use Rattle.index.proofs.add.add_entries.Goals as goal
 
 pub slice_bounds-sort-end : goal.slice_bounds-sort-end
@@ -16,7 +16,7 @@ sort-requires c =
 pub slice_bounds-add-end-2 : goal.slice_bounds-add-end-2
 slice_bounds-add-end-2 c =
     let a = c.args in
-    lent-long (line_entries a.line.now a.count a.k) a.count (line_count a.line.now a.count a.k) _ _ _ c.put_entries.ensures _ c.sort.ensures
+    lent_long (line_entries a.line.now a.count a.k) a.count (line_count a.line.now a.count a.k) _ _ _ c.put_entries.ensures _ c.sort.ensures
     a.index.now a.used c.requires.index_value.0 c.requires.index_value.1
 
 pub slice_bounds-new-end-2 : goal.slice_bounds-new-end-2
@@ -34,14 +34,14 @@ add-requires c =
     let a = c.args in
     let es = line_entries a.line.now a.count a.k in
     let n = line_count a.line.now a.count a.k in (
-      lent-whole es a.count n _ _ _ c.put_entries.ensures _ c.sort.ensures a.index.now a.used c.requires.index_value.0 c.requires.index_value.1,
-      lent-more es a.count n _ _ _ c.put_entries.ensures _ c.sort.ensures a.index.now a.used c.requires.index_value.0 c.requires.index_value.1,
-      old-rises es a.count n _ _ _ c.put_entries.ensures _ c.sort.ensures a.index.now a.used c.requires.index_value.0 c.requires.index_value.1,
+      lent_whole es a.count n _ _ _ c.put_entries.ensures _ c.sort.ensures a.index.now a.used c.requires.index_value.0 c.requires.index_value.1,
+      lent_more es a.count n _ _ _ c.put_entries.ensures _ c.sort.ensures a.index.now a.used c.requires.index_value.0 c.requires.index_value.1,
+      old_rises es a.count n _ _ _ c.put_entries.ensures _ c.sort.ensures a.index.now a.used c.requires.index_value.0 c.requires.index_value.1,
       new_rises es a.count n _ _ _ c.put_entries.ensures _ c.sort.ensures,
     )
 
 pub returns : goal.returns
 returns c =
     let a = c.args in
-    all-merged (line_entries a.line.now a.count a.k) a.count (line_count a.line.now a.count a.k) _ _ _ c.put_entries.ensures _ c.sort.ensures
+    all_merged (line_entries a.line.now a.count a.k) a.count (line_count a.line.now a.count a.k) _ _ _ c.put_entries.ensures _ c.sort.ensures
     a.index.now a.used c.requires.index_value.0 c.requires.index_value.1 _ c.add.ensures

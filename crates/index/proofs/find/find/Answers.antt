@@ -6,7 +6,7 @@ use Rattle.plate.specs.Read.{accepted}
 use Rattle.plate.specs.Noted.{Noted}
 use Rattle.plate.proofs.Facts.{most_few}
 use Rattle.entries.specs.Entries.{is_index}
-use Rattle.index.proofs.Finding.{listed_named, no_plate, no_index, no_name, short-buffer, all_found}
+use Rattle.index.proofs.Finding.{listed_named, no_plate, no_index, no_name, short_buffer, all_found}
 use Rattle.index.proofs.find.find.Tie as tie
 use Rattle.index.proofs.find.find.Lts as places
 use Rattle.index.proofs.find.find.Reads as reads
@@ -60,7 +60,7 @@ mark_codes-requires c = (is_index_lem c.before.before.before.before.before.befor
 pub returns-then-out-n : goal.returns-then-out-n
 returns-then-out-n c =
     let a = c.args in (
-      short-buffer a.plate.now a.index.now a.name.now a.out.now (is_plate c.before.before.before.before.before.before.before.before.before.before.before.before.before.before.before.before.before) (is_index_lem c.before.before.before.before.before.before.before.before.before.before.before.before.before.before.before) _ c.list_name-l.result c.list_name-l.ensures
+      short_buffer a.plate.now a.index.now a.name.now a.out.now (is_plate c.before.before.before.before.before.before.before.before.before.before.before.before.before.before.before.before.before) (is_index_lem c.before.before.before.before.before.before.before.before.before.before.before.before.before.before.before) _ c.list_name-l.result c.list_name-l.ensures
           c.if-l-ne0.false _ c.mark_codes.ensures c.count_marks-n.result c.count_marks-n.ensures c.if-out-n.true,
       refl,
     )

@@ -1,5 +1,5 @@
 -- `mark_code` meets its contract. The loop keeps: the records of the entries before this place are marked, and the code's place is not behind it. A turn is
--- Marks.marks-turn, an entry of another code Marks.marks-stop, the end Marks.marks-end. Assumes nothing.
+-- Marks.marks_turn, an entry of another code Marks.marks_stop, the end Marks.marks_end. Assumes nothing.
 use Prim.Native.Nat.{◌-◌, ◌*◌, ◌≤◌}
 use mathlib.Core.List.{[], ◌∷◌}
 use lib.ListN.{take}

@@ -1,4 +1,4 @@
--- `mark_codes` meets its contract. The loop keeps: the records of the first i codes are marked. A turn is Marks.marks-next. Assumes nothing.
+-- `mark_codes` meets its contract. The loop keeps: the records of the first i codes are marked. A turn is Marks.marks_next. Assumes nothing.
 use Prim.Native.Nat.{ℕ, ◌+◌, ◌*◌, ◌≤◌}
 use mathlib.Core.Path.{◌≡◌, subst, ◌∙◌}
 use mathlib.Core.List.{map}

@@ -1,4 +1,4 @@
--- `mark_codes` meets its contract. The loop keeps: the records of the first i codes are marked. A turn is Marks.marks-next. Assumes nothing.
+-- `mark_codes` meets its contract. The loop keeps: the records of the first i codes are marked. A turn is Marks.marks_next. Assumes nothing.
 use Prim.Native.Nat.{◌-◌, ◌≤◌}
 use mathlib.Core.List.{map}
 use Rattle.entries.specs.Entries.{entries}

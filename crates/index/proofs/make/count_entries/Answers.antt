@@ -1,5 +1,5 @@
 -- `count_entries` meets its contract. The loop keeps: the codes counted and those of the names from here on are all codes. A turn is Making.counted_next, the end
--- Making.counted-all. Assumes nothing.
+-- Making.counted_all. Assumes nothing.
 use Prim.Native.Nat.{ℕ, ◌+◌, ◌*◌, ◌<◌, ◌≤◌}
 use mathlib.Core.Path.{refl, sym}
 use native.Mathlib.Omega.{arith}

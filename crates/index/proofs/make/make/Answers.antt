@@ -1,5 +1,5 @@
 -- `make` meets its contract: each way out is the definition's, in its order (Answers); the entries are put into a front that has just their length, and sorted there
--- (Answers.index-left). Assumes nothing.
+-- (Answers.index_left). Assumes nothing.
 use Prim.Native.Nat.{ℕ, ◌*◌, ◌%◌, ◌<◌, ◌≤◌}
 use mathlib.Core.Path.{◌≡◌, refl, sym, ap, ◌∙◌}
 use mathlib.Core.Bool.{true}
@@ -15,7 +15,7 @@ use Rattle.ward.proofs.Answers.{many, exact}
 use Rattle.entries.specs.Entries.{most_records}
 use Rattle.index.specs.Index.{entries_from}
 use Rattle.index.proofs.Entries.{all_count, all_few}
-use Rattle.index.proofs.Answers.{no_plate, many_names, short-report, short-index, index_left, all_made}
+use Rattle.index.proofs.Answers.{no_plate, many_names, short_report, short_index, index_left, all_made}
 use Rattle.index.proofs.make.make.Tie as tie
 use Rattle.index.proofs.make.make.Lts as places
 use Rattle.index.proofs.make.make.Reads as reads
@@ -82,7 +82,7 @@ returns-then-report-n c =
     let n = counted c.before.before in
     let h = c.if-report-n.true in
     let short : length a.report.now < length (names a.bytes.now) = omega arith in
-    short-report a.plate.now a.bytes.now a.index.now a.report.now (is_plate c.before.before.before.before) (few c.before.before) short
+    short_report a.plate.now a.bytes.now a.index.now a.report.now (is_plate c.before.before.before.before) (few c.before.before) short
 
 pub count_entries-used-requires : goal.count_entries-used-requires
 count_entries-used-requires c =
@@ -106,7 +106,7 @@ returns-then-index-used c =
     let e = c.count_entries-used.ensures in
     let h = c.if-index-used.true in
     let short : length a.index.now < 4 * length (entries_from a.plate.now 0 (names a.bytes.now)) = omega arith in
-    short-index a.plate.now a.bytes.now a.index.now a.report.now (is_plate c.before.before.before.before.before.before.before.before) (few c.before.before.before.before.before.before) short
+    short_index a.plate.now a.bytes.now a.index.now a.report.now (is_plate c.before.before.before.before.before.before.before.before) (few c.before.before.before.before.before.before) short
 
 pub slice_bounds-put_names-end-4 : goal.slice_bounds-put_names-end-4
 slice_bounds-put_names-end-4 c =

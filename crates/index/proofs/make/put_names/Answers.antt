@@ -1,4 +1,4 @@
--- `put_names` meets its contract. The loop keeps: the names before this place have their entries and their numbers in front (Making.Made). A turn is Making.next-made,
+-- `put_names` meets its contract. The loop keeps: the names before this place have their entries and their numbers in front (Making.Made). A turn is Making.next_made,
 -- the end Making.all_made. Assumes nothing.
 use Prim.Native.Nat.{ℕ, ◌+◌, ◌*◌, ◌<◌, ◌≤◌}
 use mathlib.Core.Path.{◌≡◌, refl, sym, ap}

@@ -1,4 +1,4 @@
--- `code_at` meets its contract: six digits stand there (Numbers.within, digit_at), and six turns make their number (Numbers.six-number). Assumes nothing.
+-- `code_at` meets its contract: six digits stand there (Numbers.within, digit_at), and six turns make their number (Numbers.six_number). Assumes nothing.
 use Prim.Native.Nat.{◌+◌, ◌≤◌}
 use native.Mathlib.Omega.{arith}
 use Rattle.index.proofs.Numbers.{within, digit_at, six_number}

@@ -1,4 +1,4 @@
--- `list_name` meets its contract: what is coded is what list gives into the line (`answered`), and so it is what list at 447 bytes gives (Codes.is-listed).
+-- `list_name` meets its contract: what is coded is what list gives into the line (`answered`), and so it is what list at 447 bytes gives (Codes.is_listed).
 -- Assumes nothing.
 use Prim.Native.Nat.{ℕ}
 use mathlib.Core.Path.{◌≡◌, refl, sym, ap, subst, ◌∙◌}

@@ -1,5 +1,5 @@
--- `put_entries` meets its contract. The loop keeps: the entries of the codes before this one stand in front (Filling.Filled). A turn is Filling.next-filled, the end
--- Filling.all-filled. Assumes nothing.
+-- `put_entries` meets its contract. The loop keeps: the entries of the codes before this one stand in front (Filling.Filled). A turn is Filling.next_filled, the end
+-- Filling.all_filled. Assumes nothing.
 use Prim.Native.Nat.{ℕ, ◌+◌, ◌*◌, ◌<◌, ◌≤◌}
 use mathlib.Core.Path.{◌≡◌, sym, ap, subst, ◌∙◌}
 use mathlib.Core.List.{[]}

@@ -1,5 +1,5 @@
--- `put_entries` meets its contract. The loop keeps: the entries of the codes before this one stand in front (Filling.Filled). A turn is Filling.next-filled, the end
--- Filling.all-filled. Assumes nothing.
+-- `put_entries` meets its contract. The loop keeps: the entries of the codes before this one stand in front (Filling.Filled). A turn is Filling.next_filled, the end
+-- Filling.all_filled. Assumes nothing.
 use Prim.Native.Nat.{◌-◌}
 use Rattle.index.proofs.Filling.{line_entries, Filled}
 use Rattle.index.proofs.name.put_entries.Given as goal

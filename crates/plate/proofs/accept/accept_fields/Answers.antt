@@ -2,7 +2,7 @@
 use Rattle.std.proofs.Common.{arith}
 use Rattle.plate.specs.Plate.{good_field}
 use Rattle.plate.specs.Read.{field_at, field_end}
-use Rattle.plate.proofs.Accepted.{three_1, three_2, three-3, three-4}
+use Rattle.plate.proofs.Accepted.{three_1, three_2, three_3, three_4}
 use Rattle.plate.proofs.accept.accept_fields.Goals as goal
 
 pub returns-in_default : goal.returns-in_default
@@ -33,7 +33,7 @@ pub returns-in_default-accept_field-2 : goal.returns-in_default-accept_field-2
 returns-in_default-accept_field-2 c =
     let a = c.args in
     let s = a.plate.now in (
-      three-3 (λ p. good_field (field_at s p)) (field_end s) a.at c.accept_field.result c.accept_field.ensures.0 c.in-To.vowel c.in-To.is
+      three_3 (λ p. good_field (field_at s p)) (field_end s) a.at c.accept_field.result c.accept_field.ensures.0 c.in-To.vowel c.in-To.is
           c.accept_field-2.result c.accept_field-2.ensures.0 c.in-To-accept_field.other c.in-To-accept_field.is c.accept_field-3.result
           c.accept_field-3.ensures.0 c.in_default-accept_field-2.is,
       omega arith,
@@ -46,7 +46,7 @@ returns c =
     let x = rw c.in-To.is at c.accept_field.ensures.1 in
     let y = rw c.in-To-accept_field.is at c.accept_field-2.ensures.1 in
     let z = rw c.in-To-accept_field-2.is at c.accept_field-3.ensures.1 in (
-      three-4 (λ p. good_field (field_at s p)) (field_end s) a.at c.accept_field.result c.accept_field.ensures.0 c.in-To.vowel c.in-To.is
+      three_4 (λ p. good_field (field_at s p)) (field_end s) a.at c.accept_field.result c.accept_field.ensures.0 c.in-To.vowel c.in-To.is
           c.accept_field-2.result c.accept_field-2.ensures.0 c.in-To-accept_field.other c.in-To-accept_field.is c.accept_field-3.result
           c.accept_field-3.ensures.0 c.in-To-accept_field-2.end c.in-To-accept_field-2.is,
       omega arith,

@@ -1,7 +1,7 @@
 -- `plate::accept::accept_in` meets its contract: the tests of `accepted_in` are made one by one, and any that fails decides
 -- (Accepted.accept_number to accept-end); what accept_rules has noted is noted of the plate. Assumes nothing.
 use Rattle.std.proofs.Common.{arith}
-use Rattle.plate.proofs.Accepted.{accept_number, accept_reserved, accept_few_rules, accept_many_rules, accept_many_foldings, accept_bad_folding, accept-bad-rule, accept-end}
+use Rattle.plate.proofs.Accepted.{accept_number, accept_reserved, accept_few_rules, accept_many_rules, accept_many_foldings, accept_bad_folding, accept_bad_rule, accept_end}
 use Rattle.plate.proofs.Noting.{noted_all, noted_if}
 use Rattle.plate.proofs.accept.accept_in.Goals as goal
 
@@ -41,7 +41,7 @@ accept_rules-requires c =
 pub returns-in_default : goal.returns-in_default
 returns-in_default c =
     let a = c.args in (
-      accept-bad-rule a.plate.now a.number a.width a.least a.most c.size-m.result c.size-m.ensures.0 c.accept_foldings.result
+      accept_bad_rule a.plate.now a.number a.width a.least a.most c.size-m.result c.size-m.ensures.0 c.accept_foldings.result
           c.accept_foldings.ensures c.size-n.result c.size-n.ensures.0 c.accept_rules.result c.accept_rules.ensures.0 c.in_default.is,
       tt,
     )
@@ -58,7 +58,7 @@ returns-then-accept_foldings c =
     let m = c.size-m in
     let n = c.size-n in
     let told = c.accept_rules.ensures in (
-      accept-end s a.number a.width a.least a.most m.result m.ensures.0 c.accept_foldings.result c.accept_foldings.ensures n.result n.ensures.0
+      accept_end s a.number a.width a.least a.most m.result m.ensures.0 c.accept_foldings.result c.accept_foldings.ensures n.result n.ensures.0
           c.accept_rules.result told.0 c.bits.result c.bits-2.result c.bits.ensures.0 c.if-bits-number.false
           c.bits-2.ensures.0 c.if-bits-ne0.false c.if-n-least.false c.if-most-n.false c.if-m-gt-MOST_FOLDINGS.false
           c.if-accept_foldings.true

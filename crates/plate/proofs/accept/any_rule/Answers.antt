@@ -1,7 +1,7 @@
 -- `plate::accept::any_rule` meets its contract: pattern and fields are tested in turn, and each refusal is the definition's
 -- (Accepted.rule_pattern, rule-fields). Assumes nothing.
 use Rattle.std.proofs.Common.{◌+◌, arith}
-use Rattle.plate.proofs.Accepted.{pattern_few, rule_pattern, rule-fields, rule_good}
+use Rattle.plate.proofs.Accepted.{pattern_few, rule_pattern, rule_fields, rule_good}
 use Rattle.plate.proofs.accept.any_rule.Goals as goal
 
 pub returns-in_default : goal.returns-in_default
@@ -15,7 +15,7 @@ returns-in_default c =
 pub returns-in_default-accept_fields : goal.returns-in_default-accept_fields
 returns-in_default-accept_fields c =
     let a = c.args in (
-      rule-fields a.plate.now a.at c.size-length.result c.size-length.ensures.0 c.accept_pattern.result
+      rule_fields a.plate.now a.at c.size-length.result c.size-length.ensures.0 c.accept_pattern.result
           c.accept_pattern.ensures
           c.in-Code.code c.in-Code.is c.accept_fields.result
           c.accept_fields.ensures.0 c.in_default-accept_fields.is,

@@ -3,7 +3,7 @@
 use Rattle.std.proofs.Common.{◌≡◌, ◌<◌}
 use Rattle.chars.specs.Utf8.{char_of}
 use Rattle.plate.specs.Answers.{bytes_at}
-use Rattle.plate.proofs.Fronts.{from_four, decoded-zero, decoded_is, decoded-bad, decoded-end}
+use Rattle.plate.proofs.Fronts.{from_four, decoded_zero, decoded_is, decoded_bad, decoded_end}
 use Rattle.plate.proofs.pattern.wide_front.Tie as tie
 use Rattle.plate.proofs.pattern.wide_front.Lts as places
 use Rattle.plate.proofs.pattern.wide_front.Reads as reads
@@ -26,7 +26,7 @@ whole c =
 pub returns-then-code-eq0 : goal.returns-then-code-eq0
 returns-then-code-eq0 c =
     let a = c.args in
-    decoded-zero a.plate.now a.n a.at (some c.before.before.before) c.char_from.result (whole c.before.before.before) c.in-One.code c.in-One.width c.in-One.is c.if-code-eq0.true
+    decoded_zero a.plate.now a.n a.at (some c.before.before.before) c.char_from.result (whole c.before.before.before) c.in-One.code c.in-One.width c.in-One.is c.if-code-eq0.true
 
 pub returns-else-code-eq0 : goal.returns-else-code-eq0
 returns-else-code-eq0 c =
@@ -36,9 +36,9 @@ returns-else-code-eq0 c =
 pub returns-in-Bad : goal.returns-in-Bad
 returns-in-Bad c =
     let a = c.args in
-    decoded-bad a.plate.now a.n a.at (some c.before.before) c.char_from.result (whole c.before.before) c.in-Bad.is
+    decoded_bad a.plate.now a.n a.at (some c.before.before) c.char_from.result (whole c.before.before) c.in-Bad.is
 
 pub returns-in-End : goal.returns-in-End
 returns-in-End c =
     let a = c.args in
-    decoded-end a.plate.now a.n a.at (some c.before.before) c.char_from.result (whole c.before.before) c.in-End.is
+    decoded_end a.plate.now a.n a.at (some c.before.before) c.char_from.result (whole c.before.before) c.in-End.is

@@ -10,10 +10,10 @@ use Rattle.plate.proofs.plain.is_pair.Goals as goal
 pair : (w : ℕ) → 1441151880758558720 ≤ w → w < 1531223873305968640 → w / 562949953421312 % 16 ≤ 9 → Takes field_step 15 w 15
 pair w low high last =
     let one : w / 1152921504606846976 ≡ 1 = omega (arith, low, high) in
-    let behind-low : 4611686018427387904 ≤ w * 2 ^ 4 % 2 ^ 64 = omega (arith, low, high) in
+    let behind_low : 4611686018427387904 ≤ w * 2 ^ 4 % 2 ^ 64 = omega (arith, low, high) in
     let behind-high : w * 2 ^ 4 % 2 ^ 64 < 6052837899185946624 = omega (arith, low, high) in
     let digit : w * 2 ^ 4 % 2 ^ 64 / 9007199254740992 % 16 ≤ 9 = omega (arith, low, high, last) in
-    single w 11 one (λ _ s at held. two_digits s at (w * 2 ^ 4 % 2 ^ 64) held behind-low behind-high digit) (λ e. omega arith)
+    single w 11 one (λ _ s at held. two_digits s at (w * 2 ^ 4 % 2 ^ 64) held behind_low behind-high digit) (λ e. omega arith)
 
 pub returns-then-w-lt1441151880758558720 : goal.returns-then-w-lt1441151880758558720
 returns-then-w-lt1441151880758558720 c = λ e. absurd (false≢true e)

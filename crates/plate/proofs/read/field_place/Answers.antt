@@ -1,7 +1,7 @@
 -- `plate::read::field_place` meets its contract: each field begins where the one before ends (Parts.place_start, place-vowel, place_other). Assumes
 -- nothing.
 use Rattle.std.proofs.Common.{arith}
-use Rattle.plate.proofs.Parts.{place_start, place-vowel, place_other, vowel_near, field_near}
+use Rattle.plate.proofs.Parts.{place_start, place_vowel, place_other, vowel_near, field_near}
 use Rattle.plate.proofs.read.field_place.Goals as goal
 
 pub returns-then-which-eq0 : goal.returns-then-which-eq0
@@ -13,7 +13,7 @@ returns-then-which-eq0 c =
 pub returns-then-which-eq1 : goal.returns-then-which-eq1
 returns-then-which-eq1 c =
     let a = c.args in
-    let is = place-vowel a.plate.now a.at a.which c.size.result c.size.ensures.0 c.field_end-vowel.result
+    let is = place_vowel a.plate.now a.at a.which c.size.result c.size.ensures.0 c.field_end-vowel.result
     c.field_end-vowel.ensures c.if-which-eq1.true in
     (is, field_near a.plate.now a.at c.requires.0 a.which _ is)
 

@@ -1,9 +1,9 @@
 -- `plate::read::pattern_char` meets its contract: from a mark on the pattern is text without a zero byte, so a character stands there
--- (Parts.letter-ascii, letter-wide, letter-none). Assumes nothing.
+-- (Parts.letter_ascii, letter-wide, letter-none). Assumes nothing.
 use Rattle.std.proofs.Common.{◌<◌, refl, arith}
 use Rattle.plate.specs.Plate.{most_bytes}
 use Rattle.plate.specs.Bits.{number_at}
-use Rattle.plate.proofs.Parts.{pattern_count, rest_some, letter-ascii, letter-wide, letter-none}
+use Rattle.plate.proofs.Parts.{pattern_count, rest_some, letter_ascii, letter_wide, letter_none}
 use Rattle.plate.proofs.read.pattern_char.Tie as tie
 use Rattle.plate.proofs.read.pattern_char.Lts as places
 use Rattle.plate.proofs.read.pattern_char.Reads as reads
@@ -30,7 +30,7 @@ pub returns-then-first-le127 : goal.returns-then-first-le127
 returns-then-first-le127 c =
     let a = c.args in
     let h = c.requires in
-    letter-ascii a.plate.now a.at h.0 a.k h.1 h.2 c.bits-first.result c.bits-first.ensures.0 c.if-first-le127.true
+    letter_ascii a.plate.now a.at h.0 a.k h.1 h.2 c.bits-first.result c.bits-first.ensures.0 c.if-first-le127.true
 
 pub overflow_sub-left : goal.overflow_sub-left
 overflow_sub-left c =
@@ -52,12 +52,12 @@ pub returns-in_default : goal.returns-in_default
 returns-in_default c =
     let a = c.args in
     let h = c.requires in
-    absurd (letter-none a.plate.now a.at h.0 a.k h.1 h.2 c.size.result c.size.ensures.0 c.wide_front.result
+    absurd (letter_none a.plate.now a.at h.0 a.k h.1 h.2 c.size.result c.size.ensures.0 c.wide_front.result
     c.wide_front.ensures c.in_default.is)
 
 pub returns : goal.returns
 returns c =
     let a = c.args in
     let h = c.requires in
-    letter-wide a.plate.now a.at h.0 a.k h.1 h.2 c.size.result c.size.ensures.0 c.wide_front.result
+    letter_wide a.plate.now a.at h.0 a.k h.1 h.2 c.size.result c.size.ensures.0 c.wide_front.result
     c.wide_front.ensures c.in-Is.code c.in-Is.width c.in-Is.is

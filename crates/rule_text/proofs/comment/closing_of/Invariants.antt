@@ -1,5 +1,5 @@
 -- `comment::closing_of` meets its contract. The loop keeps: the end of the comment is the one from here on, later by the bytes passed.
--- A turn is Blocks.closing-step, the ways out Blocks.closing-hit and Blocks.closing_end. Assumes nothing.
+-- A turn is Blocks.closing_step, the ways out Blocks.closing_hit and Blocks.closing_end. Assumes nothing.
 use mathlib.Core.Path.{◌≡◌}
 use Prim.Native.Nat.{◌-◌, ◌≤◌}
 use lib.ListN.{length, drop}

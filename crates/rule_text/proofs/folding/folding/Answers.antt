@@ -6,7 +6,7 @@ use lib.ListN.{length}
 use Rattle.laws.proofs.Parts.{known, within}
 use Rattle.rule_text.specs.Forms.{equals}
 use Rattle.rule_text.specs.Answers.{From, Reads}
-use Rattle.rule_text.proofs.Folds.{none_1, none_2, none-3, none-4, folds, folds_pairs}
+use Rattle.rule_text.proofs.Folds.{none_1, none_2, none_3, none_4, folds, folds_pairs}
 use Rattle.rule_text.proofs.folding.folding.Goals as goal
 
 pub returns-in_default : goal.returns-in_default
@@ -28,7 +28,7 @@ returns-in_default-letter_at c =
     let l = c.args.rest.now in
     let key = known (Reads 0 (length l)) c.letter_at.ensures c.in-Is.is in
     let sign = sym c.byte.ensures ∙ c.if-byte-ne61.false in
-    (sym (none-3 l key.0 sign (sym c.letter_at-2.ensures.0 ∙ c.in_default-letter_at.is)), tt)
+    (sym (none_3 l key.0 sign (sym c.letter_at-2.ensures.0 ∙ c.in_default-letter_at.is)), tt)
 
 pub line_at-requires : goal.line_at-requires
 line_at-requires c =
@@ -42,7 +42,7 @@ returns-in_default-line_at c =
     let key = known (Reads 0 (length l)) c.letter_at.ensures c.in-Is.is in
     let sign = sym c.byte.ensures ∙ c.if-byte-ne61.false in
     let target = known (Reads (c.in-Is.sign + 1) (length l)) c.letter_at-2.ensures c.in-Is-letter_at.is in
-    (sym (none-4 l key.0 sign target.0 (sym c.line_at.ensures.0 ∙ c.in_default-line_at.is)), tt)
+    (sym (none_4 l key.0 sign target.0 (sym c.line_at.ensures.0 ∙ c.in_default-line_at.is)), tt)
 
 pub returns : goal.returns
 returns c =

@@ -4,7 +4,7 @@ use native.Mathlib.Omega.{arith}
 use Rattle.laws.proofs.Tests.{told}
 use Rattle.rule_text.specs.Forms.{newline, return}
 use Rattle.rule_text.proofs.Counts.{pair_within}
-use Rattle.rule_text.proofs.Ends.{ending_text, ending_newline, ending-return, ending-none}
+use Rattle.rule_text.proofs.Ends.{ending_text, ending_newline, ending_return, ending_none}
 use Rattle.rule_text.proofs.lines.ending_of.Goals as goal
 
 pub returns-then-rest-eq0 : goal.returns-then-rest-eq0
@@ -20,9 +20,9 @@ returns-then-pair_at c =
     let l = c.args.rest.now in
     let e = told c.pair_at.ensures c.if-pair_at.true in
     let w = pair_within l 0 return newline (omega arith) e in
-    (sym (ending-return l c.if-rest-eq0.false c.if-rest-eq10.false e), (omega arith, λ h. omega arith))
+    (sym (ending_return l c.if-rest-eq0.false c.if-rest-eq10.false e), (omega arith, λ h. omega arith))
 
 pub returns : goal.returns
 returns c =
     let l = c.args.rest.now in
-    (sym (ending-none l c.if-rest-eq0.false c.if-rest-eq10.false (told c.pair_at.ensures c.if-pair_at.false)), tt)
+    (sym (ending_none l c.if-rest-eq0.false c.if-rest-eq10.false (told c.pair_at.ensures c.if-pair_at.false)), tt)

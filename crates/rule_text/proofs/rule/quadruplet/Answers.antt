@@ -3,7 +3,7 @@ use mathlib.Core.Path.{sym, ◌∙◌}
 use lib.ListN.{length}
 use Rattle.laws.proofs.Parts.{known}
 use Rattle.rule_text.specs.Answers.{From, Holds}
-use Rattle.rule_text.proofs.Quotes.{none_1, none_2, none-3, none-4, none-5, four, four_holds}
+use Rattle.rule_text.proofs.Quotes.{none_1, none_2, none_3, none_4, none_5, four, four_holds}
 use Rattle.rule_text.proofs.rule.quadruplet.Goals as goal
 
 pub returns-in_default : goal.returns-in_default
@@ -32,7 +32,7 @@ returns-in_default-part_at-2 c =
     let l = c.args.rest.now in
     let first = known (Holds 0 (length l)) c.part.ensures c.in-Held.is in
     let second = known (Holds c.in-Held.next (length l)) c.part_at.ensures c.in-Held-part_at.is in
-    (sym (none-3 l first.0 second.0 (sym c.part_at-2.ensures.0 ∙ c.in_default-part_at-2.is)), tt)
+    (sym (none_3 l first.0 second.0 (sym c.part_at-2.ensures.0 ∙ c.in_default-part_at-2.is)), tt)
 
 pub part_at-requires-3 : goal.part_at-requires-3
 part_at-requires-3 c =
@@ -46,7 +46,7 @@ returns-in_default-part_at-3 c =
     let first = known (Holds 0 (length l)) c.part.ensures c.in-Held.is in
     let second = known (Holds c.in-Held.next (length l)) c.part_at.ensures c.in-Held-part_at.is in
     let third = known (Holds c.in-Held-part_at.next (length l)) c.part_at-2.ensures c.in-Held-part_at-2.is in
-    (sym (none-4 l first.0 second.0 third.0 (sym c.part_at-3.ensures.0 ∙ c.in_default-part_at-3.is)), tt)
+    (sym (none_4 l first.0 second.0 third.0 (sym c.part_at-3.ensures.0 ∙ c.in_default-part_at-3.is)), tt)
 
 pub line_at-requires : goal.line_at-requires
 line_at-requires c =
@@ -61,7 +61,7 @@ returns-in_default-line_at c =
     let second = known (Holds c.in-Held.next (length l)) c.part_at.ensures c.in-Held-part_at.is in
     let third = known (Holds c.in-Held-part_at.next (length l)) c.part_at-2.ensures c.in-Held-part_at-2.is in
     let fourth = known (Holds c.in-Held-part_at-2.next (length l)) c.part_at-3.ensures c.in-Held-part_at-3.is in
-    (sym (none-5 l first.0 second.0 third.0 fourth.0 (sym c.line_at.ensures.0 ∙ c.in_default-line_at.is)), tt)
+    (sym (none_5 l first.0 second.0 third.0 fourth.0 (sym c.line_at.ensures.0 ∙ c.in_default-line_at.is)), tt)
 
 pub returns : goal.returns
 returns c =

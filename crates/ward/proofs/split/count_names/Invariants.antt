@@ -1,5 +1,5 @@
 -- `count_names` meets its contract. The loop keeps: the names counted and those from here on are all names, and each had a byte at least (its newline). A turn is
--- Names.names_at, the ways out are Names.name-left and Names.names-end. Assumes nothing.
+-- Names.names_at, the ways out are Names.name_left and Names.names_end. Assumes nothing.
 use Prim.Native.Nat.{◌+◌, ◌-◌, ◌≤◌}
 use mathlib.Core.Path.{◌≡◌}
 use lib.ListN.{length, drop}
