@@ -8,8 +8,8 @@ use zengilvar::{DmIndexed, DmWritten};
 
 // Numbers, and what is made.
 fn makes_index(plate: &[u8], names: &[u8], index: &mut [u8], report: &mut [u8]) -> DmIndexed
-    ensures make_refuses { MakeRefuses plate.now names.now (record { index = index.entry.now; report = report.old }) (indexed result index.exit.now report.new) }
-    ensures make_gives { MakeGives plate.now names.now (record { index = index.entry.now; report = report.old }) (indexed result index.exit.now report.new) }
+    ensures make_refuses { MakeRefuses plate.now names.now (record { index = index.old; report = report.old }) (indexed result index.new report.new) }
+    ensures make_gives { MakeGives plate.now names.now (record { index = index.old; report = report.old }) (indexed result index.new report.new) }
 {
     dm_index_make(plate, names, index, report)
 }
@@ -23,7 +23,7 @@ fn adds_name(
     report: &mut [u8],
     noted: usize,
 ) -> DmIndexed
-    ensures { AddRefuses plate.now name.now (record { index = index.entry.now; report = report.old }) used noted (indexed result index.exit.now report.new) }
+    ensures { AddRefuses plate.now name.now (record { index = index.old; report = report.old }) used noted (indexed result index.new report.new) }
 {
     dm_index_add(plate, name, index, used, report, noted)
 }
@@ -52,7 +52,7 @@ fn makes_and_finds(
     out: &mut [u8],
 ) -> MadeAndFound
     ensures folder_found { FolderFound plate.now names.now result.made.number name.now (wrote result.found out.new) }
-    ensures looks { Looks plate.now names.now (record { index = index.entry.now; report = report.old }) name.now out.old (indexed result.made index.exit.now report.new) (wrote result.found out.new) }
+    ensures looks { Looks plate.now names.now (record { index = index.old; report = report.old }) name.now out.old (indexed result.made index.new report.new) (wrote result.found out.new) }
 {
     let made = dm_index_make(plate, names, index, report);
     let used = made.index_length as usize;
@@ -82,7 +82,7 @@ fn adds_afresh(
     index2: &mut [u8],
     report2: &mut [u8],
 ) -> Thrice
-    ensures { AddsAfresh names.now (record { index = index.entry.now; report = report.old }) result.made.number name.now (indexed result.added index.exit.now report.new) wider.now (record { index = index2.old; report = report2.old }) (indexed result.afresh index2.new report2.new) }
+    ensures { AddsAfresh names.now (record { index = index.old; report = report.old }) result.made.number name.now (indexed result.added index.new report.new) wider.now (record { index = index2.old; report = report2.old }) (indexed result.afresh index2.new report2.new) }
 {
     let made = dm_index_make(plate, names, index, report);
     let used = made.index_length as usize;
