@@ -3,7 +3,7 @@
 
 usage: python3 tools/respell.py [--check]
 
-Run once, at the top, right after /opt/rattle/port/port.py. It renames definitions, lemmas and fields that specs/ and proofs/ declare, wherever they are cited:
+Run once, at the top, right after the port.py of the kit. It renames definitions, lemmas and fields that specs/ and proofs/ declare, wherever they are cited:
 in .antt files, and in the clauses, ghost lines and comments of .rt files. Code, strings, names of functions and exported names stay.
 With --check it writes nothing and lists names that would fall together.
 """

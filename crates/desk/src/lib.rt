@@ -3,12 +3,12 @@
 
 mod help; // help.rt: the page
 
-use files::read::{Source, fill_gaps};
+use files::read::{fill_gaps, input};
 use front::options::{NOTHING, Scan, all, tell};
 use front::out::{ANSWERED, DESK, Pen, answers, flush, put};
 use front::rooms::{chunk_room, out_room, part, plate_room};
 use names::Way;
-use names::given::load;
+use names::given::{is_input, load};
 use names::lines::{Input, answer_all};
 use std::io::IsTerminal;
 
@@ -36,11 +36,11 @@ fn part_from(out: &mut [u8], pen: Pen, prompt: bool) -> Pen {
     pen
 }
 
-fn serve(rt: &HostRuntime, plate: &[u8]) -> i32 {
+fn serve(rt: &HostRuntime, plate: &[u8], is_spent: bool) -> i32 {
     let prompt = is_person(rt);
     let mut out = out_room();
     let pen = greet(&mut out, answers(rt, DESK), prompt);
-    let source = Source::Standard(rt.stdin());
+    let source = input(rt, is_spent);
     let from = Input {
         source: &source,
         prompt: prompt,
@@ -64,7 +64,7 @@ fn serve_by(rt: &HostRuntime, s: Scan) -> i32 {
         return given.status;
     }
     let n = given.count;
-    serve(rt, part(&plate, 0, n))
+    serve(rt, part(&plate, 0, n), is_input(rt, s.plate))
 }
 
 fn misplaced(rt: &HostRuntime, i: usize) -> i32 {

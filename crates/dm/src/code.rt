@@ -1,20 +1,16 @@
 // list and encode: the names among the arguments, in files and on standard input.
 use super::{misplaced, misused};
 use check::same;
-use files::read::{Source, open};
+use files::read::{Source, input, open_behind};
 use files::tell::tell_path;
 use front::options::{NAMES, OPERAND, Scan, arg_count, next, none, value, why_not, word};
 use front::out::{ANSWERED, DM, FAULT, Pen, answers, flush, with_status};
 use front::rooms::part;
 use names::Way;
 use names::answer::answer;
-use names::given::load;
+use names::given::{is_input, load};
 use names::lines::{Input, answer_all};
-use std::io::Error;
 use std::rt::Env;
-
-// The system's number of a file that is not open.
-const EBADF: i32 = 9;
 
 fn code_input(
     out: &mut [u8],
@@ -39,15 +35,24 @@ fn code_path(
     chunk: &mut [u8],
     path: &[u8],
     way: Way,
+    is_spent: bool,
 ) -> Pen {
-    match open(&pen.rt, DM, path) {
+    match open_behind(&pen.rt, DM, path, is_spent) {
         Some(source) => code_input(out, pen, plate, chunk, &source, path, way),
         None => with_status(pen, FAULT),
     }
 }
 
 // The names of the file that the option at a place names.
-fn code_file(out: &mut [u8], pen: Pen, plate: &[u8], chunk: &mut [u8], i: usize, way: Way) -> Pen {
+fn code_file(
+    out: &mut [u8],
+    pen: Pen,
+    plate: &[u8],
+    chunk: &mut [u8],
+    i: usize,
+    way: Way,
+    is_spent: bool,
+) -> Pen {
     let mut word = io::buffer();
     let v = value(&pen.rt, i, &mut word);
     if !v.is_whole {
@@ -55,7 +60,15 @@ fn code_file(out: &mut [u8], pen: Pen, plate: &[u8], chunk: &mut [u8], i: usize,
     }
     let start = v.start;
     let end = v.end;
-    code_path(out, pen, plate, chunk, part(&word, start, end), way)
+    code_path(
+        out,
+        pen,
+        plate,
+        chunk,
+        part(&word, start, end),
+        way,
+        is_spent,
+    )
 }
 
 fn code_word(
@@ -66,9 +79,10 @@ fn code_word(
     word: &[u8],
     is_dash: bool,
     way: Way,
+    is_spent: bool,
 ) -> Pen {
     if is_dash && same(word, b"-") {
-        let source = Source::Standard(pen.rt.stdin());
+        let source = input(&pen.rt, is_spent);
         return code_input(out, pen, plate, chunk, &source, b"-", way);
     }
     answer(out, pen, plate, word, way)
@@ -83,10 +97,11 @@ fn code_argument(
     i: usize,
     is_dash: bool,
     way: Way,
+    is_spent: bool,
 ) -> Pen {
     let mut name = io::buffer();
     match pen.rt.arg(i, &mut name) {
-        Ok(n) => code_word(out, pen, plate, chunk, &name[..n], is_dash, way),
+        Ok(n) => code_word(out, pen, plate, chunk, &name[..n], is_dash, way, is_spent),
         // It is longer than the buffer, and its front is refused for the same reason as the whole.
         Err(_) => answer(out, pen, plate, &name, way),
     }
@@ -101,15 +116,16 @@ fn code_next(
     s: Scan,
     i: usize,
     way: Way,
+    is_spent: bool,
 ) -> Pen {
     if pen.status == FAULT {
         return pen;
     }
     if s.kind == NAMES {
-        return code_file(out, pen, plate, chunk, i, way);
+        return code_file(out, pen, plate, chunk, i, way, is_spent);
     }
     if s.kind == OPERAND && i != s.first {
-        return code_argument(out, pen, plate, chunk, i, s.end == 0, way);
+        return code_argument(out, pen, plate, chunk, i, s.end == 0, way, is_spent);
     }
     pen
 }
@@ -124,64 +140,38 @@ fn is_names_dash(rt: &HostRuntime, s: Scan, i: usize) -> bool {
     same(part(&word, v.start, v.end), b"-")
 }
 
-// Whether the argument at a place is the name `-` in front of `--`.
-fn is_name_dash(rt: &HostRuntime, s: Scan, i: usize) -> bool {
-    if s.kind != OPERAND || s.end != 0 {
-        return false;
-    }
-    let mut name = io::buffer();
-    let v = word(rt, i, &mut name);
-    i != s.first && same(part(&name, v.start, v.end), b"-")
-}
-
-// Standard input that is asked for once more, behind a `--names -`: a fault, told behind all that was answered before.
-fn code_again(out: &mut [u8], pen: Pen) -> Pen {
-    if pen.status == FAULT {
-        return pen;
-    }
-    let pen = flush(out, pen);
-    if pen.broken {
-        return pen;
-    }
-    let error = Error::from_raw_os_error(EBADF);
-    with_status(pen, tell_path(&pen.rt, DM, b"-", error))
-}
-
-// The same as code_next, where standard input may be done with.
-fn code_once(
+fn code_arguments(
     out: &mut [u8],
     pen: Pen,
     plate: &[u8],
     chunk: &mut [u8],
-    s: Scan,
-    i: usize,
     way: Way,
-    is_done: bool,
+    by_plate: bool,
 ) -> Pen {
-    if is_done && (is_names_dash(&pen.rt, s, i) || is_name_dash(&pen.rt, s, i)) {
-        return code_again(out, pen);
-    }
-    code_next(out, pen, plate, chunk, s, i, way)
-}
-
-fn code_arguments(out: &mut [u8], pen: Pen, plate: &[u8], chunk: &mut [u8], way: Way) -> Pen {
     let mut s = none();
     let mut said = pen;
-    let mut is_done = false;
+    let mut is_spent = by_plate;
     let end = arg_count(&pen.rt);
     if end <= 1 {
         return said;
     }
     for i in 1..end {
         s = next(&pen.rt, s, i);
-        said = code_once(out, said, plate, chunk, s, i, way, is_done);
-        is_done = is_done || is_names_dash(&pen.rt, s, i);
+        said = code_next(out, said, plate, chunk, s, i, way, is_spent);
+        is_spent = is_spent || is_names_dash(&pen.rt, s, i);
     }
     said
 }
 
-fn code_by(rt: &HostRuntime, plate: &[u8], text: &mut [u8], out: &mut [u8], way: Way) -> i32 {
-    let pen = code_arguments(out, answers(rt, DM), plate, text, way);
+fn code_by(
+    rt: &HostRuntime,
+    plate: &[u8],
+    text: &mut [u8],
+    out: &mut [u8],
+    way: Way,
+    by_plate: bool,
+) -> i32 {
+    let pen = code_arguments(out, answers(rt, DM), plate, text, way, by_plate);
     let pen = flush(out, pen);
     pen.status
 }
@@ -225,5 +215,5 @@ pub(crate) fn run(
         shelf: false,
     };
     let n = given.count;
-    code_by(rt, part(plate, 0, n), text, out, way)
+    code_by(rt, part(plate, 0, n), text, out, way, is_input(rt, s.plate))
 }

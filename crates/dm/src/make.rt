@@ -1,8 +1,9 @@
 // build and check: a plate from the rule text of a file, written or not.
 use super::{misplaced, misused};
+use check::same;
 use files::facts::{Facts, look};
 use files::keep::keep;
-use files::read::{open, read, read_path};
+use files::read::{names_input, not_open, open, read, read_path};
 use files::tell::tell_path;
 use front::options::{Scan, why_not, word};
 use front::out::{DM, FAULT};
@@ -23,6 +24,10 @@ fn build_text(
     let r = dm_build(text, folding, plate);
     if r.number != 0 {
         return text_refused(rt, rules, text, r);
+    }
+    // The text was standard input to its end, so that a name of that is no place for a plate: nobody would read it there.
+    if same(rules, b"-") && names_input(path) {
+        return tell_path(rt, DM, path, not_open());
     }
     let n = r.length as usize;
     keep(rt, DM, path, part(plate, 0, n), input)

@@ -53,6 +53,7 @@ pub fn look(rt: &HostRuntime, from: &Source) -> Facts {
     match from {
         Source::Standard(_) => filled(metadata(rt, "/proc/self/fd/0")),
         Source::Opened(file) => look_at(file),
+        Source::Spent => blank(),
     }
 }
 

@@ -5,21 +5,54 @@ use super::system::{open_append, open_read};
 use super::tell::tell_path;
 use check::same;
 use std::fs::File;
-use std::io::{Read, Result};
+use std::io::{Error, Read, Result};
 use std::os::fd::{AsRawFd, IntoRawFd};
 use std::rt::Stdin;
 
-// What is read from: standard input, or a file that was opened, which is closed where it is dropped.
+// The system's numbers of a file that is not open, and of one that is not there.
+const EBADF: i32 = 9;
+
+const ENOENT: i32 = 2;
+
+// What is read from: standard input; a file that was opened, which is closed where it is dropped; or standard input that an option was read from to its
+// end. To ask for that again is a fault, as of a file that is not open, so that nobody takes its end for a list without names.
 #[derive(Drop)]
 pub enum Source {
     Standard(Stdin),
     Opened(File),
+    Spent,
+}
+
+pub fn input(rt: &HostRuntime, is_spent: bool) -> Source {
+    if is_spent {
+        return Source::Spent;
+    }
+    Source::Standard(rt.stdin())
+}
+
+// Whether a path is one of the system's names of standard input.
+pub fn names_input(path: &[u8]) -> bool {
+    same(path, b"/dev/stdin") || same(path, b"/dev/fd/0") || same(path, b"/proc/self/fd/0")
+}
+
+// What is told of standard input that is spent, by its number or by such a name.
+pub fn not_open() -> Error {
+    Error::from_raw_os_error(EBADF)
 }
 
 // Opens a file to read; tells why it cannot, and answers none. `-` is standard input.
 pub fn open(rt: &HostRuntime, who: u8, path: &[u8]) -> Option<Source> {
+    open_behind(rt, who, path, false)
+}
+
+// The same where standard input may be spent.
+pub fn open_behind(rt: &HostRuntime, who: u8, path: &[u8], is_spent: bool) -> Option<Source> {
     if same(path, b"-") {
-        return Some(Source::Standard(rt.stdin()));
+        return Some(input(rt, is_spent));
+    }
+    if is_spent && names_input(path) {
+        tell_path(rt, who, path, Error::from_raw_os_error(ENOENT));
+        return None;
     }
     match open_read(rt, path) {
         Ok(file) => Some(Source::Opened(file)),
@@ -57,6 +90,7 @@ pub fn read_once(from: &Source, into: &mut [u8]) -> Result<usize>
             let mut file: &File = file;
             file.read(into)
         }
+        Source::Spent => Err(not_open()),
     }
 }
 
@@ -85,7 +119,12 @@ pub fn read(rt: &HostRuntime, who: u8, path: &[u8], from: &Source, into: &mut [u
 
 // Opens a file, reads it and closes it.
 pub fn read_path(rt: &HostRuntime, who: u8, path: &[u8], into: &mut [u8]) -> Got {
-    match open(rt, who, path) {
+    read_behind(rt, who, path, into, false)
+}
+
+// The same where standard input may be spent.
+pub fn read_behind(rt: &HostRuntime, who: u8, path: &[u8], into: &mut [u8], is_spent: bool) -> Got {
+    match open_behind(rt, who, path, is_spent) {
         Some(from) => read(rt, who, path, &from, into),
         None => Got {
             count: 0,

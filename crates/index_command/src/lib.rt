@@ -16,7 +16,7 @@ use front::options::{
 };
 use front::out::{ANSWERED, DM};
 use front::rooms::part;
-use names::given::load;
+use names::given::{is_input, load};
 
 // The commands by number.
 const MAKE: u8 = 1;
@@ -106,6 +106,7 @@ fn make_words(
         part(&other, 0, k),
         part(path, 0, m),
         part(beside, 0, n),
+        is_input(rt, s.plate),
     )
 }
 

@@ -4,7 +4,7 @@ use super::grow::{Grown, from, grow, tell_unfit, worse};
 use super::kept::keep_both;
 use super::lines::{Lines, line_room, next_line, none};
 use files::facts::look;
-use files::read::{Source, open};
+use files::read::{Source, open_behind};
 use front::out::{DM, FAULT};
 use front::rooms::part;
 use names::lines::{name_start, without_cr};
@@ -100,8 +100,9 @@ pub(crate) fn run(
     from: &[u8],
     path: &[u8],
     beside: &[u8],
+    is_spent: bool,
 ) -> i32 {
-    match open(rt, DM, from) {
+    match open_behind(rt, DM, from, is_spent) {
         Some(file) => take_file(rt, plate, index, report, chunk, &file, from, path, beside),
         None => FAULT,
     }

@@ -1,4 +1,5 @@
 // The plate by which names are coded: that of a file, or the standard rules'.
+use check::same;
 use files::read::read_path;
 use files::tell::tell_path;
 use front::options::{value, why_not};
@@ -81,6 +82,16 @@ fn from_option(rt: &HostRuntime, who: u8, i: usize, into: &mut [u8]) -> Plate {
         return none(tell_path(rt, who, b"--plate", why_not(v)));
     }
     from_path(rt, who, part(&word, start, end), into)
+}
+
+// Whether the option at a place names standard input, which is then read to its end for the plate.
+pub fn is_input(rt: &HostRuntime, i: usize) -> bool {
+    if i == 0 {
+        return false;
+    }
+    let mut word = io::buffer();
+    let v = value(rt, i, &mut word);
+    same(part(&word, v.start, v.end), b"-")
 }
 
 // The plate that the option at a place names, or the standard rules' where that is 0.

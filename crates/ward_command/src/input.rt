@@ -1,11 +1,13 @@
 // An input read in blocks. Its whole lines are coded where they stand in the block; what is left of the last moves to the front. Of a line that is too long
 // to be a name only the front is kept, since it is refused whatever follows.
-use super::Course;
 use super::batch::take_lines;
-use files::read::{Source, open, read_once};
+use super::{Course, words};
+use check::same;
+use files::read::{Source, names_input, open_behind, read_once};
 use files::tell::tell_path;
 use front::out::{FAULT, Pen, WARD, flush, with_status};
 use front::rooms::{begins, byte, part};
+use names::given::is_input;
 use std::io::Error;
 use std::num::wrapping_add_usize;
 
@@ -195,6 +197,15 @@ fn take_input(
     take_last(out, b, plate, lines, chunk, bare)
 }
 
+// Whether a path leads to standard input that the plate was read from.
+fn is_spent(rt: &HostRuntime, path: &[u8]) -> bool {
+    if !same(path, b"-") && !names_input(path) {
+        return false;
+    }
+    let w = words::all(rt);
+    is_input(rt, w.scan.plate)
+}
+
 // All names of a file; `-` is standard input.
 pub(crate) fn take_path(
     out: &mut [u8],
@@ -206,7 +217,7 @@ pub(crate) fn take_path(
     bare: bool,
 ) -> Course {
     let pen = run.pen;
-    match open(&pen.rt, WARD, path) {
+    match open_behind(&pen.rt, WARD, path, is_spent(&pen.rt, path)) {
         Some(from) => take_input(out, run, plate, lines, chunk, &from, path, bare),
         None => with_pen(run, with_status(pen, FAULT)),
     }
