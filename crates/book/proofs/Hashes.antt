@@ -1,14 +1,14 @@
 -- Hashes of patterns and their marks: a hash is small, and what is marked stays marked. Assumes nothing.
 use Prim.Native.Nat.{ℕ, ◌+◌, ◌*◌, ◌%◌, ◌<◌, ◌≤◌}
-use mathlib.Core.Path.{◌≡◌, refl, sym, ◌∙◌, ap, ap₂, subst}
+use mathlib.Core.Path.{◌≡◌, refl, sym, ◌∙◌, ap, subst}
 use mathlib.Core.Logic.{◌⊎◌, inl, inr}
 use mathlib.Core.Bool.{Bool, true, false, cond, ◌||◌}
 use mathlib.Core.List.{List, [], ◌∷◌}
 use native.Mathlib.Omega.{arith}
 use native.Mathlib.Numerals.{add-one}
-use borrow.Author.Tests.{eq-eqb, ne_eqb, eqb-true, eqb-false}
+use borrow.Author.Tests.{eq-eqb, eqb-true, eqb-false}
 use lib.Dec.{eqb}
-use lib.ListN.{length, drop, get_or, set, length-set, drop_of_length-le}
+use lib.ListN.{length, drop, get_or, length-set, drop_of_length-le}
 use lib.Seq.{drop-cons, get_or-set_same, get_or-set_other}
 use Rattle.laws.proofs.Tests.{or_true, or_left, or_right}
 use Rattle.book.specs.Seen.{hashes, spread, hash_from, hash_of, slots, several, slot_of, mark_of, may_hold, marked}
@@ -31,31 +31,6 @@ hash_turn p k h g = ap (λ (n : ℕ). hash_from ((h + get_or p k 0) * spread % h
 pub hash_end : (p : List ℕ) (k h : ℕ) → length p ≤ k → hash_from h (drop k p) ≡ h
 unfolding hash_from
 hash_end p k h g = ap (hash_from h) (drop_of_length-le p g)
-
--- ---- as the tests tell it
-
-module _ (seen : List ℕ) (h i m : ℕ) (at : i ≡ slot_of h) (e : m ≡ mark_of h) where
-  pub hold_own : get_or seen i 0 ≡ m → true ≡ may_hold seen h
-  hold_own t =
-      let x : get_or seen (slot_of h) 0 ≡ mark_of h = ap (λ (j : ℕ). get_or seen j 0) (sym at) ∙ t ∙ e in
-      sym (or_left (eqb (get_or seen (slot_of h) 0) (mark_of h)) (eqb (get_or seen (slot_of h) 0) several) (eq-eqb (get_or seen (slot_of h) 0) (mark_of h) x))
-
-  pub hold_other : (get_or seen i 0 ≡ m → ⊥) → eqb (get_or seen i 0) 255 ≡ may_hold seen h
-  hold_other t =
-      let x : eqb (get_or seen i 0) m ≡ false = ne_eqb (get_or seen i 0) m t in
-      ap (λ (b : Bool). b || eqb (get_or seen i 0) several) (sym x)
-      ∙ ap₂ (λ (j n : ℕ). eqb (get_or seen j 0) n || eqb (get_or seen j 0) several) at e
-
-  pub mark_first : get_or seen i 0 ≡ 0 → set seen i m ≡ marked seen h
-  mark_first t =
-      let x : eqb (get_or seen i 0) 0 ≡ true = eq-eqb (get_or seen i 0) 0 t in
-      ap (λ (b : Bool). set seen i (cond b m several)) (sym x)
-      ∙ ap₂ (λ (j n : ℕ). set seen j (cond (eqb (get_or seen j 0) 0) n several)) at e
-
-pub mark_several : (seen : List ℕ) (h i : ℕ) → i ≡ slot_of h → (get_or seen i 0 ≡ 0 → ⊥) → set seen i 255 ≡ marked seen h
-mark_several seen h i at t =
-    ap (λ (b : Bool). set seen i (cond b (mark_of h) several)) (sym (ne_eqb (get_or seen i 0) 0 t))
-    ∙ ap (λ (j : ℕ). set seen j (cond (eqb (get_or seen j 0) 0) (mark_of h) several)) at
 
 -- ---- what was met stays met, and the new one is
 

@@ -7,7 +7,7 @@ use native.Mathlib.Numerals.{add-one}
 use native.Mathlib.Nat.{add-suc, add-zero, mul_assoc, pow-suc, mod-lt, one-mul, lt_of_lt_of_le}
 use lib.Dec.{lit<}
 use lib.ListN.{length, take, drop, get_or, set, length-set, take-append-drop, length-append}
-use lib.Seq.{take-suc-set, drop-set-lt, take-suc, take_all, drop-cons, length-take-le, drop-drop, get_or-take}
+use lib.Seq.{take-suc-set, drop-set-lt, take-suc, take_all, drop-cons, length-take-le, drop-drop}
 use lib.Arith.{digits_lt}
 use lib.Pow.{pow-add, pow_pos, pow_mono, shl_exact, shr_lt, split}
 use Rattle.laws.specs.Lists.{cat}
@@ -90,6 +90,14 @@ module _ (h a : ℕ) (i : 8 ≤ h) (out : List ℕ) (at : ℕ) (j : at < length 
         length-set out at (a / 2 ^ (h - 8)),
       )
 
+-- What is stored is bytes still.
+pub byte_stored : (l : List ℕ) (i b : ℕ) → b < 256 → ((k : ℕ) → get_or l k 0 < 256) → (k : ℕ) → get_or (set l i b) k 0 < 256
+byte_stored [] i b h f k = f k
+byte_stored (x ∷ xs) zero b h f zero = h
+byte_stored (x ∷ xs) zero b h f (suc k) = f (suc k)
+byte_stored (x ∷ xs) (suc i) b h f zero = f 0
+byte_stored (x ∷ xs) (suc i) b h f (suc k) = byte_stored xs i b h (λ j. f (suc j)) k
+
 -- What was not reached is as it was.
 pub not_reached : (out lent : List ℕ) (at b : ℕ) → drop at out ≡ drop at lent → drop (at + 1) (set out at b) ≡ drop (at + 1) lent
 not_reached out lent at b e = drop-set-lt (at + 1) out at b (omega arith) ∙ sym (drop-drop 1 at out) ∙ ap (drop 1) e ∙ drop-drop 1 at lent
@@ -103,38 +111,34 @@ both_bits h n a v i j front bits e =
 
 -- ---- bits written one behind the other
 
-pub wrote_none : (out : List ℕ) (p : Pen) (bits : List ℕ) → Ready out p bits → Wrote out p [] out p
-wrote_none out p bits r = record { part = r.part; held = r.held; is = sym (append-nil (bits_in out p)); kept = refl; size = refl; moved = omega arith }
-
-pub wrote_then : {out out₁ out₂ : List ℕ} {p p₁ p₂ : Pen} (a b : List ℕ) → Wrote out p a out₁ p₁ → Wrote out₁ p₁ b out₂ p₂ → Wrote out p (a ++ b) out₂ p₂
-wrote_then {out = out} {out₁ = out₁} {out₂ = out₂} {p = p} {p₁ = p₁} {p₂ = p₂} a b x y =
+pub wrote_then : {p p₁ p₂ : Pen} (a b : List ℕ) → Wrote p a p₁ → Wrote p₁ b p₂ → Wrote p (a ++ b) p₂
+wrote_then {p = p} {p₁ = p₁} {p₂ = p₂} a b x y =
     let n : ℕ = p₂.bytes - p₁.bytes in
-    let on : p₁.bytes + n ≡ p₂.bytes = omega (arith, x.part, y.part, x.moved, y.moved) in
+    let on : p₁.bytes + n ≡ p₂.bytes = omega (arith, p₁.part, p₂.part, x.moved, y.moved) in
     record {
-      part = y.part;
-      held = y.held;
-      is = y.is ∙ ap (λ (l : List ℕ). l ++ b) x.is ∙ append_assoc (bits_in out p) a b;
+      is = y.is ∙ ap (λ (l : List ℕ). l ++ b) x.is ∙ append_assoc (bits_in p) a b;
       kept =
-          y.kept ∙ ap (λ (m : ℕ). drop m out₁) (sym on) ∙ sym (drop-drop n p₁.bytes out₁) ∙ ap (drop n) x.kept ∙ drop-drop n p₁.bytes out
-          ∙ ap (λ (m : ℕ). drop m out) on;
+          y.kept ∙ ap (λ (m : ℕ). drop m p₁.out.now) (sym on) ∙ sym (drop-drop n p₁.bytes p₁.out.now) ∙ ap (drop n) x.kept ∙ drop-drop n p₁.bytes p.out.now
+          ∙ ap (λ (m : ℕ). drop m p.out.now) on;
       size = y.size ∙ x.size;
       moved = omega (arith, x.moved, y.moved, length-append a b);
+      same = y.same ∙ x.same;
     }
 
 -- Room for all is room for the first.
-pub ready_first : {out : List ℕ} {p : Pen} (a b : List ℕ) → Ready out p (a ++ b) → Ready out p a
-ready_first a b r = record { part = r.part; held = r.held; room = omega (arith, r.room, length-append a b) }
+pub ready_first : {p : Pen} (a b : List ℕ) → Ready p (a ++ b) → Ready p a
+ready_first a b r = record { room = omega (arith, r.room, length-append a b) }
 
 -- Behind the first there is room for the others.
-pub ready_then : {out out₁ : List ℕ} {p p₁ : Pen} (a b : List ℕ) → Ready out p (a ++ b) → Wrote out p a out₁ p₁ → Ready out₁ p₁ b
-ready_then a b r x = record { part = x.part; held = x.held; room = omega (arith, r.room, x.moved, x.size, length-append a b) }
+pub ready_then : {p p₁ : Pen} (a b : List ℕ) → Ready p (a ++ b) → Wrote p a p₁ → Ready p₁ b
+ready_then a b r x = record { room = omega (arith, r.room, x.moved, x.size, length-append a b) }
 
 -- The same bits, said otherwise.
-pub ready_as : {out : List ℕ} {p : Pen} {a b : List ℕ} → a ≡ b → Ready out p a → Ready out p b
-ready_as {out = out} {p = p} e r = subst (Ready out p) e r
+pub ready_as : {p : Pen} {a b : List ℕ} → a ≡ b → Ready p a → Ready p b
+ready_as {p = p} e r = subst (Ready p) e r
 
-pub wrote_as : {out out₁ : List ℕ} {p p₁ : Pen} {a b : List ℕ} → a ≡ b → Wrote out p a out₁ p₁ → Wrote out p b out₁ p₁
-wrote_as {out = out} {out₁ = out₁} {p = p} {p₁ = p₁} e w = subst (λ (bits : List ℕ). Wrote out p bits out₁ p₁) e w
+pub wrote_as : {p p₁ : Pen} {a b : List ℕ} → a ≡ b → Wrote p a p₁ → Wrote p b p₁
+wrote_as {p = p} {p₁ = p₁} e w = subst (λ (bits : List ℕ). Wrote p bits p₁) e w
 
 -- ---- a loop that writes the bits of each of a list
 
@@ -147,31 +151,19 @@ module _ {A : Type 0} (f : A → List ℕ) (l : List A) (k : ℕ) (d : A) (h : k
   parted : cat f l ≡ cat f (take k l) ++ (f (get_or l k d) ++ cat f (drop (suc k) l))
   parted = ap (cat f) (sym (take-append-drop k l)) ∙ cat_append f (take k l) (drop k l) ∙ ap (λ (more : List A). cat f (take k l) ++ cat f more) (drop-cons l k d h)
 
-  module _ {out out₁ : List ℕ} {p p₁ : Pen} (w : Wrote out p (cat f (take k l)) out₁ p₁) where
+  module _ {p p₁ : Pen} (w : Wrote p (cat f (take k l)) p₁) where
     -- There is room for the next.
-    pub each_ready : Ready out p (cat f l) → Ready out₁ p₁ (f (get_or l k d))
+    pub each_ready : Ready p (cat f l) → Ready p₁ (f (get_or l k d))
     each_ready r =
         ready_first (f (get_or l k d)) (cat f (drop (suc k) l)) (ready_then (cat f (take k l)) (f (get_or l k d) ++ cat f (drop (suc k) l)) (ready_as parted r) w)
 
     -- The next is written behind those before it.
-    pub each_turn : {out₂ : List ℕ} {p₂ : Pen} → Wrote out₁ p₁ (f (get_or l k d)) out₂ p₂ → Wrote out p (cat f (take (k + 1) l)) out₂ p₂
+    pub each_turn : {p₂ : Pen} → Wrote p₁ (f (get_or l k d)) p₂ → Wrote p (cat f (take (k + 1) l)) p₂
     each_turn x = wrote_as (sym one_more) (wrote_then (cat f (take k l)) (f (get_or l k d)) w x)
 
 -- All are written.
-pub each_end : {A : Type 0} (f : A → List ℕ) (l : List A) (k : ℕ) → length l ≤ k → {out out₁ : List ℕ} {p p₁ : Pen} → Wrote out p (cat f (take k l)) out₁ p₁ → Wrote out p (cat f l) out₁ p₁
+pub each_end : {A : Type 0} (f : A → List ℕ) (l : List A) (k : ℕ) → length l ≤ k → {p p₁ : Pen} → Wrote p (cat f (take k l)) p₁ → Wrote p (cat f l) p₁
 each_end f l k h w = wrote_as (ap (cat f) (take_all k l h)) w
-
--- The same of the first n of an array.
-module _ (f : ℕ → List ℕ) (a : List ℕ) (n k : ℕ) (m : n ≤ length a) (h : k < n) where
-  inside : k < length (take n a)
-  inside = omega (arith, length-take-le n a m)
-
-  module _ {out out₁ : List ℕ} {p p₁ : Pen} (w : Wrote out p (cat f (take k (take n a))) out₁ p₁) where
-    pub first_ready : Ready out p (cat f (take n a)) → Ready out₁ p₁ (f (get_or a k 0))
-    first_ready r = ready_as (ap f (get_or-take n a k 0 h)) (each_ready f (take n a) k 0 inside w r)
-
-    pub first_turn : {out₂ : List ℕ} {p₂ : Pen} → Wrote out₁ p₁ (f (get_or a k 0)) out₂ p₂ → Wrote out p (cat f (take (k + 1) (take n a))) out₂ p₂
-    first_turn x = each_turn f (take n a) k 0 inside w (wrote_as (ap f (sym (get_or-take n a k 0 h))) x)
 
 -- ---- the end
 
@@ -181,43 +173,43 @@ bytes_take [] h (suc n) = tt
 bytes_take (b ∷ bs) h (suc n) = (h 0, bytes_take bs (λ k. h (suc k)) n)
 
 -- There is room to fill the last byte.
-pub fill_ready : {out : List ℕ} {p : Pen} (n : ℕ) → n ≡ 7 - (p.count + 7) % 8 → Ready out p [] → Ready out p (bits_of n 0)
-fill_ready n e r = record { part = r.part; held = r.held; room = omega (arith, e, r.part, r.room, length_bits_of n 0) }
+pub fill_ready : {p : Pen} (n : ℕ) → n ≡ 7 - (p.count + 7) % 8 → Ready p [] → Ready p (bits_of n 0)
+fill_ready {p = p} n e r = record { room = omega (arith, e, p.part, r.room, length_bits_of n 0) }
 
-module _ {out out₁ : List ℕ} {p p₁ : Pen} (n : ℕ) (e : n ≡ 7 - (p.count + 7) % 8) (r : Ready out p []) (w : Wrote out p (bits_of n 0) out₁ p₁)
-    (b : (k : ℕ) → get_or out₁ k 0 < 256) where
+module _ {p p₁ : Pen} (n : ℕ) (e : n ≡ 7 - (p.count + 7) % 8) (r : Ready p []) (w : Wrote p (bits_of n 0) p₁) where
   empty : p₁.count ≡ 0
-  empty = omega (arith, e, r.part, w.part, w.moved, length_bits_of n 0)
+  empty = omega (arith, e, p.part, p₁.part, w.moved, length_bits_of n 0)
 
-  whole : (length (bits_in out p) + n) % 8 ≡ 0
+  whole : (length (bits_in p) + n) % 8 ≡ 0
   whole =
       omega (
         arith,
         e,
-        r.part,
-        length-append (unpack (take p.bytes out)) (bits_of p.count p.begun),
-        length_unpack (take p.bytes out),
+        p.part,
+        length-append (unpack (take p.bytes p.out.now)) (bits_of p.count p.begun),
+        length_unpack (take p.bytes p.out.now),
         length-take-le
-            p.bytes out (omega (arith, r.room)),
+            p.bytes p.out.now (omega (arith, r.room)),
         length_bits_of p.count p.begun,
       )
 
-  packed : take p₁.bytes out₁ ≡ pack (bits_in out p)
+  packed : take p₁.bytes p₁.out.now ≡ pack (bits_in p)
   packed =
-      sym (pack_unpack (take p₁.bytes out₁) (bytes_take out₁ b p₁.bytes))
+      sym (pack_unpack (take p₁.bytes p₁.out.now) (bytes_take p₁.out.now p₁.stored p₁.bytes))
       ∙ ap pack
-      (sym (append-nil (unpack (take p₁.bytes out₁))) ∙ ap (λ (m : ℕ). unpack (take p₁.bytes out₁) ++ bits_of m p₁.begun) (sym empty) ∙ w.is
-      ∙ ap (λ (l : List ℕ). bits_in out p ++ l) (sym (zero_bits n)))
-      ∙ pack_fill (bits_in out p) n (omega (arith, e)) whole
+      (sym (append-nil (unpack (take p₁.bytes p₁.out.now))) ∙ ap (λ (m : ℕ). unpack (take p₁.bytes p₁.out.now) ++ bits_of m p₁.begun) (sym empty) ∙ w.is
+      ∙ ap (λ (l : List ℕ). bits_in p ++ l) (sym (zero_bits n)))
+      ∙ pack_fill (bits_in p) n (omega (arith, e)) whole
 
   -- The bytes are the bits, packed, and what stood behind them.
-  pub finished : Finished out p out₁ p₁.bytes
+  pub finished : Finished p p₁ p₁.bytes
   finished = (
     (
-      sym (take-append-drop p₁.bytes out₁) ∙ ap₂ ◌++◌ packed w.kept,
-      sym (length-take-le p₁.bytes out₁ (omega (arith, w.size, w.moved, r.room, e, length_bits_of n 0, r.part, empty))) ∙ ap length packed,
+      sym (take-append-drop p₁.bytes p₁.out.now) ∙ ap₂ ◌++◌ packed w.kept,
+      sym (length-take-le p₁.bytes p₁.out.now (omega (arith, w.size, w.moved, r.room, e, length_bits_of n 0, p.part, empty))) ∙ ap length packed,
     ),
-    omega (arith, w.moved, w.part, r.part, length_bits_of n 0, empty),
+    omega (arith, w.moved, p₁.part, p.part, length_bits_of n 0, empty),
+    w.same,
   )
 
 -- So many bytes are so many bits.

@@ -1,6 +1,7 @@
 pub mod Faults
 pub mod Ways
 pub mod Fields
+pub mod Alternatives
 pub mod Runs
 pub mod Inks
 pub mod Sorted

@@ -17,8 +17,8 @@ use Rattle.plate.specs.Plate.{Folding, Rule, may_precede}
 use Rattle.plate.specs.Written.{digit_bits, alternative_bits, field_bits, folding_bits, rule_bits}
 use Rattle.book.specs.Book.{field_fault, put_rule}
 use Rattle.plate.proofs.Packed.{length_bits_of}
+use Rattle.std.specs.Prelude.{Ok}
 use Rattle.book.specs.Note.{FieldIs}
-use Rattle.book.specs.declared.note.Judged.TheVariants.{Fine}
 use Rattle.book.proofs.Faults.{field_digits}
 
 -- Where each takes w bits, n of them take n times as many.
@@ -83,7 +83,7 @@ module _ (sep : ℕ) (f : List ℕ) (n : ℕ) (e : n ≡ length (split_at sep f)
       sym (length-append (bits_of 4 (length F)) (cat alternative_bits F)
       ∙ omega (arith, length_bits_of 4 (length F), alternatives_length F, e, parts sep f, sum_seps sep f))
 
-  pub field_fine : field_fault (split_at sep f) ≡ 0 → n ≤ 8 → FieldIs (split_at sep f) (Fine (4 + 3 * n + 4 * (length f + 1 - n)))
+  pub field_fine : field_fault (split_at sep f) ≡ 0 → n ≤ 8 → FieldIs (split_at sep f) (Ok (4 + 3 * n + 4 * (length f + 1 - n)))
   field_fine z h = let few = field_few h (field_digits F z) in (z, field_length, omega arith)
 
 -- ---- a rule

@@ -10,20 +10,17 @@ use lib.Seq.{length-take-le, take_at}
 use Rattle.laws.specs.Lists.{some, cat}
 use Rattle.plate.specs.Plate.{Folding, Rule, first_code, rising, of_pattern}
 use Rattle.plate.specs.Written.{rule_bits}
-use Rattle.plate.specs.Plate.{most_foldings}
-use Rattle.plate.specs.Most.{rule_most, most_rules}
+use Rattle.plate.specs.Most.{rule_most}
 use Rattle.book.specs.Book.{Book, folding_of, put_rule, put_folding, with_rule, with_folding, when, rule_fault, folding_fault}
 use Rattle.laws.specs.Sort.{sorted}
 use Rattle.book.specs.Sort.{put_pair, folding_in, AllSmall, PairsHeld, PutIs}
 use Rattle.book.specs.Seen.{hash_of, slots, may_hold, marked}
-use Rattle.book.specs.Note.{places, key, key_of, place_in, hash_in, rules_in, rules_of, Sure, AllSure, AllMarked, book_of, KeysHeld, Kept, InOrder, none_noted}
-use Rattle.book.specs.Note.{flaw_number, ruled, passed, folded, RuleIs, RuleIn, DoubleNoted, FoldingNoted}
+use Rattle.book.specs.Note.{places, key, key_of, place_in, hash_in, rules_in, rules_of, Sure, AllSure, AllMarked, book_of, KeysHeld, Kept, InOrder}
+use Rattle.std.specs.Prelude.{Some, Ok, Err}
+use Rattle.book.specs.Field.{flaw_number}
+use Rattle.book.specs.Note.{ruled, passed, RuleIs, RuleIn, DoubleNoted, FoldingNoted}
 use Rattle.book.specs.declared.Flaw.{Flaw}
-use Rattle.book.specs.declared.Flaw.TheVariants.{TooMany}
 use Rattle.book.specs.declared.Tally.{Tally}
-use Rattle.book.specs.declared.Noted.TheVariants as Noted
-use Rattle.book.specs.declared.sort.Put.{Put}
-use Rattle.book.specs.declared.note.Judged.TheVariants as Judged
 use Rattle.book.proofs.Faults.{clean}
 use Rattle.book.proofs.Measures.{put_bits}
 use Rattle.book.proofs.Sorted.{put_rising}
@@ -34,13 +31,23 @@ use Rattle.book.proofs.Keys.{key_place, key_hash, all_later, put_view, first_key
 
 -- ---- nothing is noted
 
-pub none_kept : (view : ℕ → Rule) (at : ℕ) (keys foldings : List ℕ) → length keys ≡ most_rules → length foldings ≡ most_foldings → Kept view at none_noted keys foldings
-none_kept view at keys foldings k f =
+-- ---- a folding among others
+
+-- They stay foldings, their keys strictly rising.
+pub put_held : (c target n m : ℕ) (a a' : List ℕ) → c < 2097152 → target < 2097152 → PairsHeld n a → PutIs c target n a a' (Some m) → PairsHeld m a'
+put_held c target n m a a' i j k p =
+    let L = put_pair c target (take n a) in
+    let few = p.1 in
+    let long = k.room in
+    let first : take m a' ≡ L = first_pairs c target j a a' n m p.0 p.2 in
     record {
-      rules = record { few = omega arith; few_read = omega arith; room = k; few_bits = omega arith };
-      pairs = record { few = omega arith; room = f; small = tt; sorted = refl };
-      sure = tt;
-      bits = refl;
+      few = p.1;
+      room = pairs_length c target j a a' n m p.0 p.2 (omega arith) ∙ long;
+      small = subst AllSmall (sym first) (put_small c target j (take n a) i k.small);
+      sorted =
+          ap (λ (l : List ℕ). rising (map folding_in l)) first
+          ∙ ap rising (put_folding_view c target j (take n a))
+          ∙ put_rising (folding_of c target) (map folding_in (take n a)) k.sorted;
     }
 
 -- ---- one more
@@ -55,7 +62,7 @@ module _ (view : ℕ → Rule) (at : ℕ) (tally : Tally) (keys foldings : List 
       record { rules = k.rules; pairs = k.pairs; sure = all_later view at at2 (take tally.rules keys) h k.sure; bits = k.bits }
 
   -- A rule that is left out.
-  module _ (r : Rule) (t : Tally) (q : DoubleNoted r tally (Noted.Fine t)) where
+  module _ (r : Rule) (t : Tally) (q : DoubleNoted r tally (Ok t)) where
     pub double_kept : Kept view at t keys foldings
     double_kept =
         let n = (clean r tally.read q.0).few in
@@ -198,11 +205,11 @@ module _ (view : ℕ → Rule) (at : ℕ) (tally : Tally) (keys foldings : List 
     longer = ap length (sym put) ∙ length-map L folding_in
 
     -- Refusal 8, and none.
-    pub folding_fault_lem : (w : Flaw) (a' : List ℕ) → FoldingNoted c target tally foldings a' (Noted.Refused w)
+    pub folding_fault_lem : (w : Flaw) (a' : List ℕ) → FoldingNoted c target tally foldings a' (Err w)
         → folding_fault (folding_of c target) book.foldings ≡ flaw_number w
     folding_fault_lem w a' p = ap (λ (t : Bool). when t 8) (lt-ltb 128 _ (subst (λ (n : ℕ). 128 < n) (sym longer) p.0)) ∙ sym p.1
 
-    module _ (a' : List ℕ) (t : Tally) (p : FoldingNoted c target tally foldings a' (Noted.Fine t)) where
+    module _ (a' : List ℕ) (t : Tally) (p : FoldingNoted c target tally foldings a' (Ok t)) where
       pub folding_fine : folding_fault (folding_of c target) book.foldings ≡ 0
       folding_fine = ap (λ (t : Bool). when t 8) (le-ltb 128 _ (subst (λ (n : ℕ). n ≤ 128) (sym longer) p.0))
 
@@ -210,16 +217,7 @@ module _ (view : ℕ → Rule) (at : ℕ) (tally : Tally) (keys foldings : List 
       first = first_pairs c target j foldings a' tally.foldings (length L) refl p.1
 
       held_pairs : PairsHeld (length L) a'
-      held_pairs =
-          let n = p.0 in
-          let m = k.pairs.room in
-          let room : length L ≤ length foldings = omega arith in
-          record {
-            few = p.0;
-            room = pairs_length c target j foldings a' tally.foldings (length L) refl p.1 room ∙ m;
-            small = subst AllSmall (sym first) (put_small c target j (take tally.foldings foldings) i k.pairs.small);
-            sorted = ap (λ (l : List ℕ). rising (map folding_in l)) first ∙ ap rising put ∙ put_rising (folding_of c target) book.foldings k.pairs.sorted;
-          }
+      held_pairs = put_held c target tally.foldings (length L) foldings a' i j k.pairs (refl, p.0, p.1)
 
       pub folding_kept : Kept view at t keys a'
       folding_kept =
@@ -238,7 +236,7 @@ module _ (view : ℕ → Rule) (at : ℕ) (tally : Tally) (keys foldings : List 
 
 -- ---- as the calls tell it
 
-pub entered : (r : Rule) (at : ℕ) (tally : Tally) (keys seen keys' seen' : List ℕ) (bits k hash : ℕ) → RuleIs r tally.read (Judged.Fine bits)
+pub entered : (r : Rule) (at : ℕ) (tally : Tally) (keys seen keys' seen' : List ℕ) (bits k hash : ℕ) → RuleIs r tally.read (Ok bits)
     → hash ≡ hash_of r.pattern → k ≡ key (first_code r) (length r.pattern) at hash → keys' ≡ set keys tally.rules k
     → seen' ≡ marked seen hash → RuleIn r at tally keys seen keys' seen' (ruled tally bits)
 entered r at tally keys seen keys' seen' bits k hash j h e f m =
@@ -249,16 +247,3 @@ entered r at tally keys seen keys' seen' bits k hash j h e f m =
       met = m ∙ ap (marked seen) h;
       told = ap (ruled tally) j.1;
     }
-
-module _ {c c2 target target2 : ℕ} (e : c2 ≡ c) (f : target2 ≡ target) (tally : Tally) (a a' : List ℕ) (r : Put) (p : PutIs c2 target2 tally.foldings a a' r) where
-  as_asked : PutIs c target tally.foldings a a' r
-  as_asked = subst (λ (c : ℕ). PutIs c target tally.foldings a a' r) e (subst (λ (t : ℕ). PutIs c2 t tally.foldings a a' r) f p)
-
-  pub put_now : (n : ℕ) → r ≡ Put.Now n → FoldingNoted c target tally a a' (Noted.Fine (folded tally n))
-  put_now n is =
-      let q = subst (PutIs c target tally.foldings a a') is as_asked in
-      let L = put_pair c target (take tally.foldings a) in
-      (subst (λ (m : ℕ). m ≤ 128) q.0 q.1, q.2 ∙ ap (λ (m : ℕ). L ++ drop m a) q.0, ap (folded tally) q.0)
-
-  pub put_full : r ≡ Put.Full → FoldingNoted c target tally a a' (Noted.Refused TooMany)
-  put_full is = let q = subst (PutIs c target tally.foldings a a') is as_asked in (q.0, refl, q.1)

@@ -4,5 +4,6 @@ pub mod Pen
 pub mod Seen
 pub mod Sort
 pub mod Note
+pub mod Notes
 pub mod Writing
 pub mod Worked

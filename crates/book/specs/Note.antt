@@ -1,20 +1,19 @@
 -- What is noted: rules and foldings as numbers, and the bits of the rules; and what the functions that note answer. A rule's number holds its place, at which
 -- the driver reads it again: `view` is that reading. Assumes nothing.
-use Rattle.std.specs.Prelude.{ℕ, ◌+◌, ◌-◌, ◌*◌, ◌/◌, ◌%◌, ◌<◌, ◌≤◌, ◌≡◌, true, List, ◌++◌, map, length, take, drop, set}
+use Rattle.std.specs.Prelude.{ℕ, ◌+◌, ◌-◌, ◌*◌, ◌/◌, ◌%◌, ◌<◌, ◌≤◌, ◌≡◌, true, List, Result, Ok, Err, ◌++◌, map, length, take, drop, set}
 use Rattle.laws.specs.Lists.{cat}
 use Rattle.laws.specs.Arrays.{Each}
 use Rattle.plate.specs.Plate.{Rule, first_code, most_bytes, most_foldings}
 use Rattle.plate.specs.Most.{field_most, rule_most, most_rules}
 use Rattle.plate.specs.Written.{field_bits, rule_bits}
-use Rattle.book.specs.Book.{Book, field_fault, rule_fault}
+use Rattle.book.specs.Book.{Book, rule_of, field_fault, rule_fault}
 use Rattle.book.specs.Seen.{hashes, slots, hash_of, may_hold, marked}
 use Rattle.laws.specs.Sort.{sorted}
 use Rattle.book.specs.Sort.{put_pair, folding_in, PairsHeld}
+use Rattle.book.specs.Field.{flaw_number}
 use Rattle.book.specs.declared.Flaw.{Flaw}
-use Rattle.book.specs.declared.Flaw.TheVariants.{EmptyPattern, LongPattern, ManyAlternatives, NotDigits, TooMany}
+use Rattle.book.specs.declared.Parts.{Parts}
 use Rattle.book.specs.declared.Tally.{Tally}
-use Rattle.book.specs.declared.Noted.{Noted}
-use Rattle.book.specs.declared.note.Judged.{Judged}
 
 -- ---- a rule as one number: first code point rising, byte length falling, place rising; and its pattern's hash, which orders nothing
 
@@ -89,21 +88,17 @@ none_noted = record { read = 0; rules = 0; foldings = 0; bits = 0 }
 
 -- ---- what the functions answer
 
--- 01's number for each
-abbrev pub flaw_number : Flaw → ℕ
-flaw_number EmptyPattern = 4
-flaw_number LongPattern = 5
-flaw_number ManyAlternatives = 6
-flaw_number NotDigits = 7
-flaw_number TooMany = 8
+-- the rule of the parts that a driver found
+abbrev pub rule_from : Parts → Rule
+rule_from p = rule_of p.sep p.pattern.now p.start.now p.vowel.now p.other.now
 
-abbrev pub FieldIs : List (List ℕ) → Judged → Type 0
-FieldIs f (Judged.Fine bits) = (field_fault f ≡ 0) × (bits ≡ length (field_bits f)) × (bits ≤ field_most)
-FieldIs f (Judged.Wrong flaw) = field_fault f ≡ flaw_number flaw
+abbrev pub FieldIs : List (List ℕ) → Result ℕ Flaw → Type 0
+FieldIs f (Ok bits) = (field_fault f ≡ 0) × (bits ≡ length (field_bits f)) × (bits ≤ field_most)
+FieldIs f (Err flaw) = field_fault f ≡ flaw_number flaw
 
-abbrev pub RuleIs : Rule → ℕ → Judged → Type 0
-RuleIs r n (Judged.Fine bits) = (rule_fault r n ≡ 0) × (bits ≡ length (rule_bits r)) × (bits ≤ rule_most)
-RuleIs r n (Judged.Wrong flaw) = rule_fault r n ≡ flaw_number flaw
+abbrev pub RuleIs : Rule → ℕ → Result ℕ Flaw → Type 0
+RuleIs r n (Ok bits) = (rule_fault r n ≡ 0) × (bits ≡ length (rule_bits r)) × (bits ≤ rule_most)
+RuleIs r n (Err flaw) = rule_fault r n ≡ flaw_number flaw
 
 -- one rule more, of so many bits
 abbrev pub ruled : Tally → ℕ → Tally
@@ -132,17 +127,17 @@ pub record RuleIn (r : Rule) (at : ℕ) (tally : Tally) (keys seen keys' seen' :
   pub met : seen' ≡ marked seen (hash_of r.pattern)
   pub told : t ≡ ruled tally (length (rule_bits r))
 
-abbrev pub RuleNoted : Rule → ℕ → Tally → List ℕ → List ℕ → List ℕ → List ℕ → Noted → Type 0
-RuleNoted r at tally keys seen keys' seen' (Noted.Fine t) = RuleIn r at tally keys seen keys' seen' t
-RuleNoted r at tally keys seen keys' seen' (Noted.Refused flaw) = (rule_fault r tally.read ≡ flaw_number flaw) × (keys' ≡ keys) × (seen' ≡ seen)
+abbrev pub RuleNoted : Rule → ℕ → Tally → List ℕ → List ℕ → List ℕ → List ℕ → Result Tally Flaw → Type 0
+RuleNoted r at tally keys seen keys' seen' (Ok t) = RuleIn r at tally keys seen keys' seen' t
+RuleNoted r at tally keys seen keys' seen' (Err flaw) = (rule_fault r tally.read ≡ flaw_number flaw) × (keys' ≡ keys) × (seen' ≡ seen)
 
 -- a rule is left out; 02, M-107: "The limit of refusal 8 still counts it, and its fields are still checked"
-abbrev pub DoubleNoted : Rule → Tally → Noted → Type 0
-DoubleNoted r tally (Noted.Fine t) = (rule_fault r tally.read ≡ 0) × (t ≡ passed tally)
-DoubleNoted r tally (Noted.Refused flaw) = rule_fault r tally.read ≡ flaw_number flaw
+abbrev pub DoubleNoted : Rule → Tally → Result Tally Flaw → Type 0
+DoubleNoted r tally (Ok t) = (rule_fault r tally.read ≡ 0) × (t ≡ passed tally)
+DoubleNoted r tally (Err flaw) = rule_fault r tally.read ≡ flaw_number flaw
 
-abbrev pub FoldingNoted : ℕ → ℕ → Tally → List ℕ → List ℕ → Noted → Type 0
-FoldingNoted c target tally a a' (Noted.Fine t) =
+abbrev pub FoldingNoted : ℕ → ℕ → Tally → List ℕ → List ℕ → Result Tally Flaw → Type 0
+FoldingNoted c target tally a a' (Ok t) =
     let put = put_pair c target (take tally.foldings a) in (length put ≤ most_foldings) × (a' ≡ put ++ drop (length put) a) × (t ≡ folded tally (length put))
-FoldingNoted c target tally a a' (Noted.Refused flaw) =
+FoldingNoted c target tally a a' (Err flaw) =
     (most_foldings < length (put_pair c target (take tally.foldings a))) × (flaw_number flaw ≡ 8) × (a' ≡ a)

@@ -1,35 +1,35 @@
 -- Bits written one behind the other: whole bytes, and the bits of the next one. Assumes nothing.
-use Rattle.std.specs.Prelude.{ℕ, ◌+◌, ◌*◌, ◌^◌, ◌<◌, ◌≤◌, ◌≡◌, List, ◌++◌, length, take, drop}
+use Rattle.std.specs.Prelude.{ℕ, ◌+◌, ◌*◌, ◌≤◌, ◌≡◌, List, ◌++◌, length, take, drop}
 use Rattle.plate.specs.Bits.{bits_of, unpack, pack}
 use Rattle.book.specs.declared.pen.Pen.{Pen}
 
--- nothing is written yet
-abbrev pub begin : Pen
-begin = record { bytes = 0; begun = 0; count = 0 }
+-- nothing is written yet into a buffer
+pub record Begins (out : List ℕ) (p : Pen) : Type 0 where
+  pub lent : p.out.now ≡ out
+  pub bytes : p.bytes ≡ 0
+  pub begun : p.begun ≡ 0
+  pub count : p.count ≡ 0
 
--- the bits that stand in a buffer up to the pen
-abbrev pub bits_in : List ℕ → Pen → List ℕ
-bits_in out p = unpack (take p.bytes out) ++ bits_of p.count p.begun
+-- the bits that stand in the buffer up to the pen
+abbrev pub bits_in : Pen → List ℕ
+bits_in p = unpack (take p.bytes p.out.now) ++ bits_of p.count p.begun
 
--- The pen holds less than a byte, and bits more have room.
-pub record Ready (out : List ℕ) (p : Pen) (bits : List ℕ) : Type 0 where
-  pub part : p.count < 8
-  pub held : p.begun < 2 ^ p.count
-  pub room : 8 * p.bytes + p.count + length bits ≤ 8 * length out
+-- Bits more have room.
+pub record Ready (p : Pen) (bits : List ℕ) : Type 0 where
+  pub room : 8 * p.bytes + p.count + length bits ≤ 8 * length p.out.now
 
--- The bits are written behind those that stood there, and nothing behind the pen's bytes was touched.
-pub record Wrote (out : List ℕ) (p : Pen) (bits : List ℕ) (out' : List ℕ) (p' : Pen) : Type 0 where
-  pub part : p'.count < 8
-  pub held : p'.begun < 2 ^ p'.count
-  pub is : bits_in out' p' ≡ bits_in out p ++ bits
-  pub kept : drop p'.bytes out' ≡ drop p'.bytes out
-  pub size : length out' ≡ length out
+-- The bits are written behind those that stood there, into the same buffer, and nothing behind the pen's bytes was touched.
+pub record Wrote (p : Pen) (bits : List ℕ) (p' : Pen) : Type 0 where
+  pub is : bits_in p' ≡ bits_in p ++ bits
+  pub kept : drop p'.bytes p'.out.now ≡ drop p'.bytes p.out.now
+  pub size : length p'.out.now ≡ length p.out.now
   pub moved : 8 * p'.bytes + p'.count ≡ 8 * p.bytes + p.count + length bits
+  pub same : p'.out.ghost_name ≡ p.out.ghost_name
 
 -- n bytes stand in front of what was lent
 abbrev pub Stored : List ℕ → List ℕ → List ℕ → ℕ → Type 0
 Stored out bytes out' n = (out' ≡ bytes ++ drop n out) × (n ≡ length bytes)
 
--- the bits that stood up to the pen are whole bytes, and nothing behind them was touched
-abbrev pub Finished : List ℕ → Pen → List ℕ → ℕ → Type 0
-Finished out p out' n = Stored out (pack (bits_in out p)) out' n × (p.bytes ≤ n)
+-- the bits that stood up to the pen are whole bytes in the same buffer, and nothing behind them was touched
+abbrev pub Finished : Pen → Pen → ℕ → Type 0
+Finished p p' n = Stored p.out.now (pack (bits_in p)) p'.out.now n × (p.bytes ≤ n) × (p'.out.ghost_name ≡ p.out.ghost_name)

@@ -2,6 +2,9 @@
 // spans, says which byte splits a field, and gives each rule a place by which it finds it again.
 #![tactic(auto)]
 
+ghost use Rattle.std.specs.Prelude.{◌≡◌};
+ghost use Rattle.book.specs.Field.{flaw_number};
+
 pub mod sort; // sort.rt: rules and foldings in the plate's order
 pub mod field; // field.rt: the alternatives of a field
 pub mod note; // note.rt: a rule or a folding noted, or what is wrong with it
@@ -14,9 +17,6 @@ pub const PLACES: u64 = 65536;
 
 // A pattern's hash, in 22 bits, is below this.
 pub const HASHES: u64 = 4194304;
-
-// A rule's number has so many bits.
-const KEY_BITS: usize = 64;
 
 // How many slots tell which hashes were met.
 pub const SLOTS: usize = 4096;
@@ -33,16 +33,18 @@ const MOST_ALTERNATIVES: usize = 8;
 
 const MOST_DIGITS: usize = 6;
 
-// A field: how many alternatives it has, or its first fault.
+// A rule as its driver found it: the pattern, the three fields, and the byte that splits these.
 #[derive(Clone, Copy)]
-pub enum Alternatives {
-    Many(usize),
-    TooMany,
-    NotDigits,
+pub struct Parts<'a> {
+    pub pattern: &'a [u8],
+    pub start: &'a [u8],
+    pub vowel: &'a [u8],
+    pub other: &'a [u8],
+    pub sep: u8,
 }
 
 // What is wrong with a rule, or with one rule or folding more: 01's refusals 4 to 8.
-#[derive(Clone, Copy)]
+#[derive(Clone, Copy, PartialEq, Eq)]
 pub enum Flaw {
     EmptyPattern,
     LongPattern,
@@ -51,18 +53,26 @@ pub enum Flaw {
     TooMany,
 }
 
+impl Flaw {
+    // 01's number of it.
+    pub fn number(self) -> u64
+        ensures { result ≡ flaw_number self }
+    {
+        match self {
+            Flaw::EmptyPattern => 4,
+            Flaw::LongPattern => 5,
+            Flaw::ManyAlternatives => 6,
+            Flaw::NotDigits => 7,
+            Flaw::TooMany => 8,
+        }
+    }
+}
+
 // What is noted: how many rules were read, how many of them and of foldings are kept, and the bits of the rules kept.
-#[derive(Clone, Copy)]
+#[derive(Clone, Copy, PartialEq, Eq)]
 pub struct Tally {
     pub read: usize,
     pub rules: usize,
     pub foldings: usize,
     pub bits: usize,
-}
-
-// What is noted then, or why nothing more is.
-#[derive(Clone, Copy)]
-pub enum Noted {
-    Fine(Tally),
-    Refused(Flaw),
 }

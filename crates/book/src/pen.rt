@@ -1,53 +1,61 @@
 // Bits written one behind the other, most significant first. Whole bytes are stored as they fill, so that the buffer is touched only where the plate stands.
-ghost use Rattle.std.specs.Prelude.{◌≡◌, [], ◌^◌, ◌≤◌, ◌<◌};
+ghost use Rattle.std.specs.Prelude.{◌≡◌, ℕ, [], ◌^◌, ◌≤◌, ◌<◌, get_or};
 ghost use Rattle.plate.specs.Bits.{bits_of};
-ghost use Rattle.book.specs.Pen.{begin, Ready, Wrote, Finished};
 
-// How many whole bytes are written, and the bits that are not yet a byte: their number and how many they are.
-#[derive(Clone, Copy)]
-pub struct Pen {
-    pub bytes: usize,
-    pub begun: u64,
-    pub count: usize,
+// The buffer, how many whole bytes are written into it, and the bits that are not yet a byte: their number and how many they are.
+#[derive(Drop)]
+pub struct Pen<'a> {
+    out: &'a mut [u8],
+    bytes: usize,
+    begun: u64,
+    count: usize,
+    ghost part: { count < 8 },
+    ghost held: { begun < 2 ^ count },
+    ghost stored: { (k : ℕ) → get_or out.now k 0 < 256 },
 }
 
-// Nothing is written yet.
-pub fn start() -> Pen
-    ensures { result ≡ begin }
-{
-    Pen {
-        bytes: 0,
-        begun: 0,
-        count: 0,
-    }
-}
+impl<'a> Pen<'a> {
+    ghost use Rattle.book.specs.Pen.{Begins, Ready, Wrote, Finished};
 
-// A number in so many bits.
-pub(crate) fn put(out: &mut [u8], pen: Pen, width: usize, number: u64) -> Pen
-    requires { (width ≤ 24) × (number < 2 ^ width) × Ready out.old pen (bits_of width number) }
-    ensures { Wrote out.old pen (bits_of width number) out.new result }
-{
-    let mut begun = pen.begun * (1u64 << width) + number;
-    let mut count = pen.count + width;
-    let mut at = pen.bytes;
-    while 8 <= count {
-        count -= 8;
-        out[at] = (begun >> count) as u8;
-        begun = begun % (1u64 << count);
-        at += 1;
+    // Nothing is written yet.
+    pub fn new(out: &'a mut [u8]) -> Pen<'a>
+        ensures same { result.out.ghost_name ≡ out.entry.ghost_name }
+        ensures begins { Begins out.old result }
+    {
+        Pen {
+            out,
+            bytes: 0,
+            begun: 0,
+            count: 0,
+        }
     }
-    Pen {
-        bytes: at,
-        begun,
-        count,
-    }
-}
 
-// 01: "Zero bits fill the last byte." How many bytes there are then.
-pub fn finish(out: &mut [u8], pen: Pen) -> usize
-    requires { Ready out.old pen [] }
-    ensures { Finished out.old pen out.new result }
-{
-    let filled = put(out, pen, 7 - (pen.count + 7) % 8, 0);
-    filled.bytes
+    // A number in so many bits.
+    pub(crate) fn put(&mut self, width: usize, number: u64)
+        requires { (width ≤ 24) × (number < 2 ^ width) × Ready self.old (bits_of width number) }
+        ensures { Wrote self.old (bits_of width number) self.new }
+    {
+        let mut begun = self.begun * (1u64 << width) + number;
+        let mut count = self.count + width;
+        let mut at = self.bytes;
+        // Stays: it turns while a whole byte is held, which is what the test says.
+        while 8 <= count {
+            count -= 8;
+            self.out[at] = (begun >> count) as u8;
+            begun = begun % (1u64 << count);
+            at += 1;
+        }
+        self.bytes = at;
+        self.begun = begun;
+        self.count = count;
+    }
+
+    // 01: "Zero bits fill the last byte." How many bytes there are then.
+    pub fn finish(&mut self) -> usize
+        requires { Ready self.old [] }
+        ensures { Finished self.old self.new result }
+    {
+        self.put(7 - (self.count + 7) % 8, 0);
+        self.bytes
+    }
 }

@@ -2,7 +2,6 @@
 ghost use Rattle.std.specs.Prelude.{◌≡◌, ◌<◌, length};
 ghost use Rattle.book.specs.Seen.{hashes, slots, hash_of, slot_of, mark_of, may_hold, marked};
 
-use super::write::wide;
 use super::{HASHES, SLOTS};
 
 // A hash leaves one of so many marks, from 1 on, in its slot; another hash's mark there becomes `SEVERAL`.
@@ -21,8 +20,8 @@ pub fn hash_of(pattern: &[u8]) -> u64
     ensures { (result ≡ hash_of pattern.now) × (result < hashes) }
 {
     let mut hash: u64 = 0;
-    for k in 0..pattern.len() {
-        hash = (hash + wide(pattern[k])) * SPREAD % HASHES;
+    for b in pattern {
+        hash = (hash + u64::from(*b)) * SPREAD % HASHES;
     }
     hash
 }
@@ -45,10 +44,7 @@ pub fn may_hold(seen: &[u8], hash: u64) -> bool
     ensures { result ≡ may_hold seen.now hash }
 {
     let mark = seen[slot_of(hash)];
-    if mark == mark_of(hash) {
-        return true;
-    }
-    mark == SEVERAL
+    mark == mark_of(hash) || mark == SEVERAL
 }
 
 // One of this hash is noted.
@@ -57,9 +53,5 @@ pub(crate) fn mark(seen: &mut [u8], hash: u64)
     ensures { seen.new ≡ marked seen.old hash }
 {
     let i = slot_of(hash);
-    if seen[i] == 0 {
-        seen[i] = mark_of(hash);
-    } else {
-        seen[i] = SEVERAL;
-    }
+    seen[i] = if seen[i] == 0 { mark_of(hash) } else { SEVERAL };
 }

@@ -1,25 +1,21 @@
 -- The first branch of each code: what the loop of `once_each` goes by. Assumes nothing.
-use Prim.Native.Nat.{ℕ, ◌+◌, ◌≤◌, ◌<◌}
-use mathlib.Core.Path.{◌≡◌, refl, sym, ap, subst, ◌∙◌}
-use mathlib.Core.Bool.{Bool, true, false, cond}
-use mathlib.Core.List.{List, [], ◌∷◌, ◌++◌, map}
-use native.Mathlib.Omega.{arith}
-use lib.ListN.{length, take, drop, get_or}
+use Rattle.std.proofs.Common.{ℕ, suc, ◌+◌, ◌<◌, ◌≡◌, Bool, true, false, cond, ◌||◌, eqb, List, [], ◌∷◌, ◌++◌, map, length, drop, get_or, sym, refl, ap, ap₂, ◌∙◌, arith, add-one}
+use Rattle.std.specs.List.{list_any}
+use Rattle.std.specs.Cmp.Lexicographic.{pointwise}
+use lib.Seq.{drop-cons}
 use Rattle.laws.specs.Lists.{same}
 use Rattle.laws.specs.Once.{among, merge, once}
-use Rattle.laws.proofs.Arrays.{mapped_from, mapped_end}
-use Rattle.branches.specs.Branches.{code}
-use Rattle.branches.specs.Held.{branch_of, FirstOk}
-use Rattle.branches.specs.declared.Branch as one
-use Rattle.branches.proofs.Holding.{no_branch}
+use Rattle.laws.proofs.Many.{map_snoc}
+use Rattle.branches.specs.Branches.{Branch, code}
+use Rattle.branches.proofs.Extending.{pointwise_same}
 
--- the code of a branch that is held
-abbrev pub code_of : one.Branch → List ℕ
-code_of b = code (branch_of b)
+among_codes : (c : List ℕ) (l : List Branch) → list_any (λ b. pointwise eqb (code b) c) l ≡ among same c (map code l)
+among_codes c [] = refl
+among_codes c (b ∷ l) = ap₂ ◌||◌ (pointwise_same c (code b)) (among_codes c l)
 
-pub codes_of : (l : List one.Branch) → map code (map branch_of l) ≡ map code_of l
-codes_of [] = refl
-codes_of (b ∷ l) = ap (λ (m : List (List ℕ)). code_of b ∷ m) (codes_of l)
+-- What `has_code` tells is whether a branch's code is among theirs.
+pub has_code : (b : Branch) (l : List Branch) (c : List ℕ) → c ≡ code b → (r : Bool) → r ≡ list_any (λ d. pointwise eqb (code d) c) l → among same (code b) (map code l) ≡ r
+has_code b l c e r f = ap (λ (k : List ℕ). among same k (map code l)) (sym e) ∙ sym (among_codes c l) ∙ sym f
 
 -- At most one code is listed as it is.
 pub once_one : (l : List (List ℕ)) → length l < 2 → l ≡ once same l
@@ -27,26 +23,16 @@ once_one [] h = refl
 once_one (c ∷ []) h = refl
 once_one (c ∷ d ∷ l) h = absurd (omega arith)
 
--- From place i on: the one there is dropped or kept, and at the end all are made.
-module _ (items : List one.Branch) (n i : ℕ) (ok : FirstOk items n) (so wanted : List (List ℕ)) (e : merge same so (map code_of (drop i (take n items))) ≡ wanted) where
-  here : i < n → merge same so (code_of (get_or items i no_branch) ∷ map code_of (drop (i + 1) (take n items))) ≡ wanted
-  here h =
-      let s = ok.small in
-      let l = ok.long in
-      ap (merge same so) (sym (mapped_from code_of items no_branch n i (omega arith) h)) ∙ e
+-- The branch at i is dropped or kept.
+module _ (items so : List Branch) (i : ℕ) (wanted : List (List ℕ)) (e : merge same (map code so) (map code (drop i items)) ≡ wanted)
+    (b : Branch) (is : b ≡ get_or items i b) (h : i < length items) where
+  turn : merge same (cond (among same (code b) (map code so)) (map code so) (map code so ++ (code b ∷ []))) (map code (drop (i + 1) items)) ≡ wanted
+  turn =
+      let here : drop i items ≡ b ∷ drop (i + 1) items = rw add-one (drop-cons items i b h ∙ ap (λ (x : Branch). x ∷ drop (suc i) items) (sym is)) in
+      ap (λ (l : List Branch). merge same (map code so) (map code l)) (sym here) ∙ e
 
-  -- the same, by whether it equals one before it
-  judged : (t : Bool) → among same (code_of (get_or items i no_branch)) so ≡ t → merge same so (code_of (get_or items i no_branch) ∷ map code_of (drop (i + 1) (take n items))) ≡ wanted
-      → merge same (cond t so (so ++ (code_of (get_or items i no_branch) ∷ []))) (map code_of (drop (i + 1) (take n items))) ≡ wanted
-  judged t f g =
-      ap (λ (b : Bool). merge same (cond b so (so ++ (code_of (get_or items i no_branch) ∷ []))) (map code_of (drop (i + 1) (take n items)))) (sym f) ∙ g
+  pub code_dropped : among same (code b) (map code so) ≡ true → merge same (map code so) (map code (drop (i + 1) items)) ≡ wanted
+  code_dropped t = rw t at turn
 
-  pub code_dropped : i < n → among same (code_of (get_or items i no_branch)) so ≡ true → merge same so (map code_of (drop (i + 1) (take n items))) ≡ wanted
-  code_dropped h t = judged true t (here h)
-
-  pub code_kept : i < n → among same (code_of (get_or items i no_branch)) so ≡ false → (to : List (List ℕ)) → so ++ (code_of (get_or items i no_branch) ∷ []) ≡ to
-      → merge same to (map code_of (drop (i + 1) (take n items))) ≡ wanted
-  code_kept h t to f = subst (λ (l : List (List ℕ)). merge same l (map code_of (drop (i + 1) (take n items))) ≡ wanted) f (judged false t (here h))
-
-  pub codes_made : n ≤ i → so ≡ wanted
-  codes_made h = ap (merge same so) (sym (mapped_end code_of items no_branch n i h)) ∙ e
+  pub code_kept : among same (code b) (map code so) ≡ false → (to : List Branch) → to ≡ so ++ (b ∷ []) → merge same (map code to) (map code (drop (i + 1) items)) ≡ wanted
+  code_kept t to f = ap (λ (l : List Branch). merge same (map code l) (map code (drop (i + 1) items))) f ∙ ap (λ (l : List (List ℕ)). merge same l (map code (drop (i + 1) items))) (map_snoc code so b) ∙ rw t at turn

@@ -1,89 +1,50 @@
--- Only one answer satisfies each promise of this crate, to the last byte: what lies past a count is fixed, so that a branch, and a list of branches, is
--- held in one way only. The digits of a branch so held are its padded code. Assumes nothing.
-use Prim.Native.Nat.{ℕ, ◌-◌}
-use mathlib.Core.Path.{◌≡◌, refl, sym, ap, ap₂, ◌∙◌}
-use mathlib.Core.Bool.{Bool, cond}
-use mathlib.Core.List.{List, [], ◌∷◌, ◌++◌, map, nil≢cons, cons≢nil, head-eq_of_cons-eq, tail-eq_of_cons-eq}
-use native.Mathlib.Omega.{arith}
-use lib.ListN.{length, take, drop, replicate, take-append-drop, drop_of_length-le}
-use lib.Seq.{length-take-le, take_all}
-use Rattle.laws.specs.Arrays.{Each}
-use Rattle.laws.proofs.Arrays.{by_halves}
+-- Only one answer satisfies each promise of this crate, for each says by an equation what is held. A branch is held in one way only, to the last byte: what
+-- lies past the count of its digits, and of its last replacement, is fixed, for they can be read back from what they stand for (DigitsOk and held_again in
+-- plate's specs/Field.antt, the invariant and the inverse of Digits). The digits of a branch so held are its padded code. Of a list of branches what lies
+-- past its count can be seen by nobody. Assumes nothing.
+use Rattle.std.proofs.Common.{◌≡◌, ℕ, Bool, cond, List, take, leb, length, refl, sym, ap, ◌∙◌}
+use Rattle.std.proofs.lemmas.Bool.{false≢true}
+use Rattle.std.specs.Prelude.{Result, Ok, Err}
+use Rattle.std.specs.Result.{is_ok}
 use Rattle.laws.proofs.Only.{only}
-use Rattle.plate.specs.Field.{DigitsOk}
+use Rattle.plate.specs.Field.{DigitsOk, held_again}
+use Rattle.plate.specs.Field as field
 use Rattle.branches.specs.Branches as defined
-use Rattle.branches.specs.Held.{BranchOk, branch_of, blank_branch, most_branches, BranchesOk, branches_of, Answered}
-use Rattle.branches.specs.declared.Branch.{Branch}
-use Rattle.branches.specs.declared.Branches.{Branches}
-use Rattle.branches.specs.declared.Stepped.{Stepped}
+use Rattle.branches.specs.Held.{use_of}
+use Rattle.branches.specs.declared.TooMany.{TooMany}
 
--- ---- held in one way only
-
-digits_once : (l m : List ℕ) (n k : ℕ) → DigitsOk l n → DigitsOk m k → take n l ≡ take k m → (n ≡ k) × (l ≡ m)
-digits_once l m n k p q e =
-    let s = p.small in
-    let six = p.six in
-    let s' = q.small in
-    let six' = q.six in
-    let nk : n ≡ k = sym (length-take-le n l (omega arith)) ∙ ap length e ∙ length-take-le k m (omega arith) in
-    (nk, by_halves n l m (e ∙ ap (λ (j : ℕ). take j m) (sym nk)) (p.clear ∙ ap (λ (j : ℕ). replicate (6 - j) 48) nk ∙ sym q.clear ∙ ap (λ (j : ℕ). drop j m) (sym nk)))
-
-branch_once : (b c : Branch) → BranchOk b → BranchOk c → branch_of b ≡ branch_of c → b ≡ c
-branch_once b c p q e =
-    let d = digits_once b.digits c.digits b.count c.count p.0 q.0 (ap (λ (x : defined.Branch). x.digits) e) in
-    let l = digits_once b.last c.last b.last_count c.last_count p.1 q.1 (ap (λ (x : defined.Branch). x.last) e) in
-    λ i. record { digits = d.1 i; count = d.0 i; last = l.1 i; last_count = l.0 i }
-
-each_once : (xs ys : List Branch) → Each BranchOk xs → Each BranchOk ys → map branch_of xs ≡ map branch_of ys → xs ≡ ys
-each_once [] [] p q e = refl
-each_once [] (y ∷ ys) p q e = absurd (nil≢cons e)
-each_once (x ∷ xs) [] p q e = absurd (cons≢nil e)
-each_once (x ∷ xs) (y ∷ ys) p q e = ap₂ ◌∷◌ (branch_once x y p.0 q.0 (head-eq_of_cons-eq e)) (each_once xs ys p.1 q.1 (tail-eq_of_cons-eq e))
-
-branches_once : (b c : Branches) → BranchesOk b → BranchesOk c → branches_of b ≡ branches_of c → b ≡ c
-branches_once b c p q e =
-    let s = p.small in
-    let long = p.long in
-    let s' = q.small in
-    let long' = q.long in
-    let front : take b.count b.items ≡ take c.count c.items = each_once (take b.count b.items) (take c.count c.items) p.each q.each e in
-    let n : b.count ≡ c.count = sym (length-take-le b.count b.items (omega arith)) ∙ ap length front ∙ length-take-le c.count c.items (omega arith) in
-    let l : b.items ≡ c.items =
-    by_halves b.count b.items c.items (front ∙ ap (λ (j : ℕ). take j c.items) (sym n))
-    (p.clear ∙ ap (λ (j : ℕ). replicate (most_branches - j) blank_branch) n ∙ sym q.clear ∙ ap (λ (j : ℕ). drop j c.items) (sym n)) in
-    λ i. record { items = l i; count = n i }
+-- ---- a branch
 
 -- "At the end zeros fill each code to six digits": they stand there already.
-pub padded : (b : Branch) → BranchOk b → defined.code (branch_of b) ≡ b.digits
-padded b p =
-    let s = p.0.small in
-    let six = p.0.six in
-    let n : length (take b.count b.digits) ≡ b.count = length-take-le b.count b.digits (omega arith) in
-    ap (λ (k : ℕ). take b.count b.digits ++ replicate (6 - k) 48) n ∙ ap (λ (r : List ℕ). take b.count b.digits ++ r) (sym p.0.clear)
-    ∙ take-append-drop b.count b.digits
-
--- All six digits count.
-pub whole_digits : (l : List ℕ) (n : ℕ) → DigitsOk l n → DigitsOk l 6
-whole_digits l n ok = let six = ok.six in record { small = omega arith; six = six; clear = drop_of_length-le l {i = 6} (omega arith) }
-
-pub code_held : (b : Branch) → BranchOk b → take 6 b.digits ≡ defined.code (branch_of b)
-code_held b p = let six = p.0.six in take_all 6 b.digits (omega arith) ∙ sym (padded b p)
-
--- ---- each public function
+pub padded : (b : defined.Branch) (held : List ℕ) (n : ℕ) → DigitsOk held n → b.digits ≡ take n held → defined.code b ≡ held
+padded b held n ok e = ap field.padded e ∙ (held_again held n ok).0
 
 pub same_branch_lem : (b c : defined.Branch) (r r' : Bool) → r ≡ defined.same_branch b c → r' ≡ defined.same_branch b c → r ≡ r'
 same_branch_lem b c r r' e f = only e f
 
-pub extend : (anyway : Bool) (a : List ℕ) (b : defined.Branch) (r r' : Branch)
-    → BranchOk r × (branch_of r ≡ defined.extend anyway a b) → BranchOk r' × (branch_of r' ≡ defined.extend anyway a b) → r ≡ r'
-extend anyway a b r r' e f = branch_once r r' e.0 f.0 (only e.1 f.1)
+pub extend : (anyway : Bool) (a : List ℕ) (b r r' : defined.Branch) → r ≡ defined.extend anyway a b → r' ≡ defined.extend anyway a b → r ≡ r'
+extend anyway a b r r' e f = only e f
 
-pub start : (r r' : Branches) → BranchesOk r × (branches_of r ≡ defined.start) → BranchesOk r' × (branches_of r' ≡ defined.start) → r ≡ r'
-start r r' e f = branches_once r r' e.0 f.0 (only e.1 f.1)
+-- ---- each public function
 
-pub step : (room : ℕ) (u : defined.Use) (bs : List defined.Branch) (r r' : Stepped)
-    → Answered room (defined.step u bs) r → Answered room (defined.step u bs) r' → r ≡ r'
-step room u bs r r' e f =
-    let over : r.over ≡ r'.over = only e.0 f.0 in
-    let next : r.next ≡ r'.next = branches_once r.next r'.next e.1 f.1 (e.2 ∙ ap (λ (t : Bool). cond t [] (defined.step u bs)) over ∙ sym f.2) in
-    λ i. record { next = next i; over = over i }
+pub code : (b : defined.Branch) (r r' : List ℕ) → r ≡ defined.code b → r' ≡ defined.code b → r ≡ r'
+code b r r' e f = only e f
+
+pub start : (r r' : List defined.Branch) → r ≡ defined.start → r' ≡ defined.start → r ≡ r'
+start r r' e f = only e f
+
+pub as_slice : (bs r r' : List defined.Branch) → r ≡ bs → r' ≡ bs → r ≡ r'
+as_slice bs r r' e f = only e f
+
+one_of_two : (r r' : Result (Unit {0}) TooMany) → is_ok r ≡ is_ok r' → r ≡ r'
+one_of_two (Ok x) (Ok y) e = refl
+one_of_two (Err x) (Err y) e = refl
+one_of_two (Ok x) (Err y) e = absurd (false≢true (sym e))
+one_of_two (Err x) (Ok y) e = absurd (false≢true e)
+
+pub step : (field : List (List ℕ)) (anyway : Bool) (room : ℕ) (bs : List defined.Branch) (r r' : Result (Unit {0}) TooMany) (new new' : List defined.Branch)
+    → let made = defined.step (use_of field anyway) bs in
+    (is_ok r ≡ leb (length made) room) × (new ≡ cond (is_ok r) made bs) → (is_ok r' ≡ leb (length made) room) × (new' ≡ cond (is_ok r') made bs) → (r ≡ r') × (new ≡ new')
+step field anyway room bs r r' new new' e f =
+    let same = only e.0 f.0 in
+    (one_of_two r r' same, e.1 ∙ ap (λ (t : Bool). cond t (defined.step (use_of field anyway) bs) bs) same ∙ sym f.1)

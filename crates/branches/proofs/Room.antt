@@ -1,20 +1,18 @@
 -- Room: what fits in a room fits in more; over, or the branches behind all uses, as one answer for a loop; one alternative at each use always fits.
 -- Assumes nothing.
 use Prim.Native.Nat.{ℕ, ◌≤◌, ◌<◌}
-use mathlib.Core.Path.{◌≡◌, refl, sym, ap, subst, ◌∙◌}
-use mathlib.Core.Bool.{Bool, true, false, cond}
-use mathlib.Core.Option.{none, some}
+use mathlib.Core.Path.{◌≡◌, refl}
+use mathlib.Core.Bool.{true, false}
+use Rattle.std.specs.Prelude.{None, Some}
 use mathlib.Core.List.{List, [], ◌∷◌}
 use native.Mathlib.Omega.{arith}
-use borrow.Author.Tests.{lt-ltb, le-ltb, ltb-true, ltb-false}
+use borrow.Author.Tests.{lt-ltb, le-ltb, ltb-false}
 use lib.Dec.{ltb}
 use lib.ListN.{length}
 use Rattle.laws.proofs.Tests.{neither}
 use Rattle.branches.specs.Branches.{Branch, Use, met, step, run, over, start}
 use Rattle.branches.specs.Choice.{Single}
-use Rattle.branches.specs.Held.{branches_of, Answered}
 use Rattle.branches.specs.Room.{outcome}
-use Rattle.branches.specs.declared.Stepped.{Stepped}
 
 -- ---- room
 
@@ -42,7 +40,7 @@ no_room (u ∷ us) = refl
 -- ---- one answer for a loop
 
 -- Over at the start.
-pub outcome_over : (room : ℕ) (us : List Use) (bs : List Branch) → room < length bs → outcome room us bs ≡ none
+pub outcome_over : (room : ℕ) (us : List Use) (bs : List Branch) → room < length bs → outcome room us bs ≡ None
 unfolding outcome over
 outcome_over room [] bs h = rw (lt-ltb room (length bs) h)
 outcome_over room (u ∷ us) bs h = rw (lt-ltb room (length bs) h)
@@ -53,25 +51,9 @@ unfolding outcome over run
 outcome_next room u us bs h = rw (le-ltb room (length bs) h)
 
 -- No use is left.
-pub outcome_end : (room : ℕ) (bs : List Branch) → length bs ≤ room → outcome room [] bs ≡ some bs
+pub outcome_end : (room : ℕ) (bs : List Branch) → length bs ≤ room → outcome room [] bs ≡ Some bs
 unfolding outcome over run
 outcome_end room bs h = rw (le-ltb room (length bs) h)
-
--- ---- one answer of `step`, in a loop over the uses
-
--- Over: so is the whole.
-pub answer_over : (room : ℕ) (u : Use) (us : List Use) (bs : List Branch) (r : Stepped) → length bs ≤ room → Answered room (step u bs) r → r.over ≡ true
-    → outcome room (u ∷ us) bs ≡ none
-answer_over room u us bs r h a e = outcome_next room u us bs h ∙ outcome_over room us (step u bs) (ltb-true room (length (step u bs)) (sym a.0 ∙ e))
-
--- Not over: the branches handed back fit, and the rest is what comes of them.
-pub answer_fits : (room : ℕ) (u : Use) (us : List Use) (bs : List Branch) (r : Stepped) → length bs ≤ room → Answered room (step u bs) r → r.over ≡ false
-    → (length (branches_of r.next) ≤ room) × (outcome room (u ∷ us) bs ≡ outcome room us (branches_of r.next))
-answer_fits room u us bs r h a e =
-    let is : branches_of r.next ≡ step u bs = a.2 ∙ ap (λ (t : Bool). cond t [] (step u bs)) e in (
-      subst (λ (l : List Branch). length l ≤ room) (sym is) (ltb-false room (length (step u bs)) (sym a.0 ∙ e)),
-      outcome_next room u us bs h ∙ ap (outcome room us) (sym is),
-    )
 
 -- ---- one alternative at each use
 

@@ -1,4 +1,4 @@
--- A rule of parts that are lent; and the rule at the place of a key, read again: it is one, for what says none reads as one without a pattern, and that is
+-- The rule at the place of a key, read again: it is one, for what says none reads as one without a pattern, and that is
 -- never noted. Assumes nothing.
 use Prim.Native.Nat.{ℕ}
 use mathlib.Core.Path.{◌≡◌, refl, sym, ◌∙◌, ap, subst}
@@ -7,21 +7,15 @@ use native.Mathlib.Omega.{arith}
 use lib.ListN.{length, drop}
 use Rattle.laws.proofs.Lists.{rest}
 use Rattle.laws.proofs.Parts.{lent}
-use Rattle.rule_text.specs.Forms.{inside, entry}
+use Rattle.rule_text.specs.Forms.{entry}
 use Rattle.rule_text.specs.Items.{said}
-use Rattle.rule_text.specs.Fields.{bar}
 use Rattle.rule_text.specs.declared.Four.{Four}
 use Rattle.rule_text.specs.declared.Entry.{Entry}
 use Rattle.rule_text.specs.declared.Entry.TheVariants as E
 use Rattle.plate.specs.Plate.{Rule}
-use Rattle.book.specs.Book.{rule_of, rule_fault}
+use Rattle.book.specs.Book.{rule_fault}
 use Rattle.book.specs.Note.{place_in, Sure}
 use Rattle.builder.specs.Survey.{rule_in, rule_said, view}
-
--- A rule of four parts that are lent.
-pub lent_rule : (l : List ℕ) (four : Four) {p s v o : List ℕ} → p ≡ inside l four.pattern → s ≡ inside l four.start → v ≡ inside l four.vowel
-    → o ≡ inside l four.other → rule_of bar p s v o ≡ rule_in l four
-lent_rule l four a b c d = λ i. rule_of bar (a i) (b i) (c i) (d i)
 
 -- as each form says
 abbrev pub IsRule : Entry → Type 0
@@ -62,6 +56,3 @@ module _ (text : List ℕ) (k : ℕ) {r : Entry} (says : r ≡ entry (lent (plac
       pub viewed_again : view text (place_in k) ≡ rule_in (lent (place_in k) text) four
       viewed_again =
           again ∙ ap (λ (e : Entry). rule_said (said left e)) is ∙ ap (λ (l : List ℕ). rule_in l four) (sym (rest (place_in k) text))
-
-      pub fine_again : rule_fault (rule_in (lent (place_in k) text) four) 0 ≡ 0
-      fine_again = subst (λ (q : Rule). rule_fault q 0 ≡ 0) viewed_again s.fine

@@ -6,12 +6,12 @@ use mathlib.Core.List.{List, [], ◌∷◌, ◌++◌}
 use native.Mathlib.Omega.{arith}
 use borrow.Author.Tests.{lt-ltb, le-ltb, ne_eqb}
 use lib.ListN.{length, drop}
+use Rattle.std.specs.Prelude.{Result, Ok, Err}
 use Rattle.laws.specs.Lists.{every, some}
 use Rattle.laws.proofs.Tests.{and_left_false, and_right_false, both_true}
 use Rattle.chars.specs.Utf8.{is_text}
 use Rattle.chars.specs.Answers.{is_zero, checked}
-use Rattle.chars.specs.declared.Checked.{Checked}
-use Rattle.chars.specs.declared.Checked.TheVariants.{BadAt, Text}
+use Rattle.chars.specs.declared.NotUtf8.{NotUtf8}
 use Rattle.chars.proofs.Checks.{says}
 use Rattle.rule_text.specs.Items.{items, line_of}
 use Rattle.book.specs.Book.{Book, blank}
@@ -49,12 +49,12 @@ module _ (text : List ℕ) (flag : Bool) (lent : List ℕ) where
     two : is_text text && every nonzero text ≡ false → refusal 2 0 lent ≡ build_answer text flag lent
     two e = sym (fits ∙ ap (λ (t : Bool). cond t (answered text flag lent (verdict blank (items text))) (refusal 2 0 lent)) e)
 
-    pub not_text : (at : ℕ) {r : Checked} → r ≡ checked text → r ≡ BadAt at → refusal 2 0 lent ≡ build_answer text flag lent
-    not_text at e f = two (and_left_false (is_text text) (every nonzero text) (says text (BadAt at) (sym f ∙ e)).0)
+    pub not_text : (y : NotUtf8) {r : Result Bool NotUtf8} → r ≡ checked text → r ≡ Err y → refusal 2 0 lent ≡ build_answer text flag lent
+    not_text y e f = two (and_left_false (is_text text) (every nonzero text) (says text (Err y) (sym f ∙ e)).0)
 
-    module _ (holds : Bool) {r : Checked} (e : r ≡ checked text) (f : r ≡ Text holds) where
+    module _ (holds : Bool) {r : Result Bool NotUtf8} (e : r ≡ checked text) (f : r ≡ Ok holds) where
       told : (is_text text ≡ true) × (every nonzero text ≡ not holds)
-      told = let s = says text (Text holds) (sym f ∙ e) in (s.0, none_zero text ∙ ap not (sym s.1))
+      told = let s = says text (Ok holds) (sym f ∙ e) in (s.0, none_zero text ∙ ap not (sym s.1))
 
       pub holds_zero : holds ≡ true → refusal 2 0 lent ≡ build_answer text flag lent
       holds_zero z = two (and_right_false (is_text text) (every nonzero text) (told.1 ∙ ap not z))

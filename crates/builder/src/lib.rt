@@ -8,13 +8,15 @@ mod write; // write.rt: what is noted, written as a plate
 ghost use Rattle.std.specs.Prelude.{◌≡◌};
 ghost use Rattle.builder.specs.Build.{build_answer};
 ghost use Rattle.builder.specs.Outcome.{told};
+ghost use Rattle.builder.specs.Survey.{fault_number};
+ghost use Rattle.builder.specs.declared.Fault.TheVariants.{Flawed};
 
+use book::note::Notes;
 use book::{Flaw, SLOTS};
-use chars::Checked;
 use chars::utf8::check_text;
 use plate::{MOST_FOLDINGS, MOST_RULES};
 use rule_text::item::line_of;
-use survey::Surveyed;
+use survey::{FaultAt, survey};
 use write::write_plate;
 
 const LONGEST_TEXT: usize = 65536;
@@ -23,45 +25,61 @@ const LONGEST_TEXT: usize = 65536;
 const BAR: u8 = b'|';
 
 // What is wrong with an item: 01's refusal 3, or what the book finds, 4 to 8.
-#[derive(Clone, Copy)]
+#[derive(Clone, Copy, PartialEq, Eq)]
 pub enum Fault {
     NotRecognised,
     Flawed(Flaw),
 }
 
-// What build answers: the plate's length in bytes, or why there is none; with a fault the line of its item.
-#[derive(Clone, Copy)]
-pub enum Built {
-    Plate(usize),
+impl Fault {
+    // 01's number of it.
+    pub fn number(self) -> u64
+        ensures { result ≡ fault_number self }
+    {
+        match self {
+            Fault::NotRecognised => 3,
+            Fault::Flawed(flaw) => flaw.number(),
+        }
+    }
+}
+
+impl From<Flaw> for Fault {
+    ghost from_gives = { λ flaw fault. fault ≡ Flawed flaw };
+
+    fn from(flaw: Flaw) -> Fault {
+        Fault::Flawed(flaw)
+    }
+}
+
+// Why a text has no plate: 01's refusals 1 and 2, an item's fault with its line, and 9.
+#[derive(Clone, Copy, PartialEq, Eq)]
+pub enum BuildError {
     LongText,
     NotText,
     Faulty(Fault, usize),
     ShortBuffer,
 }
 
-// The plate of a rule text, with a folding flag, into `out`. A refused call changes no byte.
-pub fn build(text: &[u8], flag: bool, out: &mut [u8]) -> Built
+// The plate of a rule text, with a folding flag, into `out`: its length in bytes. A refused call changes no byte.
+pub fn build(text: &[u8], flag: bool, out: &mut [u8]) -> Result<usize, BuildError>
     ensures { told result out.new ≡ build_answer text.now flag out.old }
 {
     if LONGEST_TEXT < text.len() {
-        return Built::LongText;
+        return Err(BuildError::LongText);
     }
-    let Checked::Text(holds_zero) = check_text(text) else {
-        return Built::NotText;
+    let Ok(false) = check_text(text) else {
+        return Err(BuildError::NotText);
     };
-    if holds_zero {
-        return Built::NotText;
-    }
     let mut keys = [0u64; MOST_RULES];
-    let mut foldings = [0u64; MOST_FOLDINGS];
     let mut seen = [0u8; SLOTS];
-    match survey::survey(text, &mut keys, &mut seen, &mut foldings) {
-        Surveyed::Faulty(fault, at) => Built::Faulty(fault, line_of(text, at)),
-        Surveyed::Fine(tally) => {
-            if out.len() < (32 + 42 * tally.foldings + tally.bits + 7) / 8 {
-                return Built::ShortBuffer;
-            }
-            Built::Plate(write_plate(out, text, &keys, &foldings, tally, flag))
-        }
+    let mut foldings = [0u64; MOST_FOLDINGS];
+    let mut notes = Notes::new(&mut keys, &mut seen, &mut foldings);
+    if let Err(FaultAt { fault, at }) = survey(text, &mut notes) {
+        return Err(BuildError::Faulty(fault, line_of(text, at)));
     }
+    let bits = 32 + 42 * notes.tally.foldings + notes.tally.bits;
+    if out.len() < (bits + 7) / 8 {
+        return Err(BuildError::ShortBuffer);
+    }
+    Ok(write_plate(out, text, &notes, flag))
 }

@@ -3,124 +3,82 @@ ghost use Rattle.std.specs.Prelude.{◌≡◌, ◌≤◌, ◌<◌, length};
 ghost use Rattle.rule_text.specs.Items.{items};
 ghost use Rattle.rule_text.specs.Answers.{FourIn};
 ghost use Rattle.book.specs.Book.{blank};
-ghost use Rattle.book.specs.Note.{places};
-ghost use Rattle.builder.specs.Build.{verdict};
-ghost use Rattle.builder.specs.Survey.{rule_in, turn_of, Held, Room, SoFar, FourNoted, TurnIs, SurveyIs};
+ghost use Rattle.book.specs.Note.{places, rule_from, none_noted};
+ghost use Rattle.builder.specs.Build.{longest_text, verdict};
+ghost use Rattle.builder.specs.Survey.{rule_in, Held, SoFar, FourNoted, TurnIs, SurveyIs};
 
 use super::known::is_known;
 use super::{BAR, Fault};
-use book::note::{note_double, note_folding, note_rule};
+use book::note::Notes;
 use book::seen::hash_of;
-use book::sort::sort_keys;
-use book::{Noted, Tally};
+use book::{Flaw, Parts};
 use rule_text::item::item;
 use rule_text::rule::bytes_in;
 use rule_text::{Entry, Four};
 
-// Behind one item more: the next place, and what is noted; or its fault.
-#[derive(Clone, Copy)]
-pub enum Turn {
-    On(usize, Tally),
-    Stop(Fault),
+// A fault, and the place of its item.
+pub(crate) struct FaultAt {
+    pub fault: Fault,
+    pub at: usize,
 }
 
-// The whole text: what its items have said, or the first fault and the place of its item.
-#[derive(Clone, Copy)]
-pub enum Surveyed {
-    Fine(Tally),
-    Faulty(Fault, usize),
+// The four parts of the rule in front of the rest.
+pub(crate) fn parts_in(rest: &[u8], four: Four) -> Parts<'_>
+    requires { FourIn (length rest.now) four }
+    ensures { rule_from result ≡ rule_in rest.now four }
+{
+    Parts {
+        pattern: bytes_in(rest, four.pattern),
+        start: bytes_in(rest, four.start),
+        vowel: bytes_in(rest, four.vowel),
+        other: bytes_in(rest, four.other),
+        sep: BAR,
+    }
 }
 
 // The rule in front of the rest, which begins at a place.
-fn note_four(
-    text: &[u8],
-    keys: &mut [u64],
-    seen: &mut [u8],
-    tally: Tally,
-    at: usize,
-    rest: &[u8],
-    four: Four,
-) -> Noted
-    requires { Held text.now at tally keys.old seen.old × (at < places) × FourIn (length rest.now) four }
-    ensures { FourNoted text.now (rule_in rest.now four) at tally keys.old seen.old keys.new seen.new result }
+fn note_four(text: &[u8], notes: &mut Notes, at: usize, rest: &[u8], four: Four) -> Result<(), Flaw>
+    requires { Held text.now at notes.old × (at < places) × FourIn (length rest.now) four }
+    ensures { FourNoted text.now (rule_in rest.now four) at notes.old notes.new result }
 {
-    let pattern = bytes_in(rest, four.pattern);
-    let start = bytes_in(rest, four.start);
-    let vowel = bytes_in(rest, four.vowel);
-    let other = bytes_in(rest, four.other);
-    let hash = hash_of(pattern);
-    if is_known(text, keys, tally.rules, seen, pattern, hash) {
-        return note_double(tally, pattern, start, vowel, other, BAR);
+    let parts = parts_in(rest, four);
+    let hash = hash_of(parts.pattern);
+    if is_known(text, notes, parts.pattern, hash) {
+        return notes.note_double(parts);
     }
-    note_rule(
-        keys, seen, tally, at, pattern, start, vowel, other, BAR, hash,
-    )
+    notes.note_rule(at, parts, hash)
 }
 
-fn behind(noted: Noted, next: usize) -> Turn
-    ensures { result ≡ turn_of noted next }
-{
-    match noted {
-        Noted::Fine(tally) => Turn::On(next, tally),
-        Noted::Refused(flaw) => Turn::Stop(Fault::Flawed(flaw)),
-    }
-}
-
-// The item at a place.
-fn enter(
-    text: &[u8],
-    keys: &mut [u64],
-    seen: &mut [u8],
-    foldings: &mut [u64],
-    at: usize,
-    tally: Tally,
-) -> Turn
-    requires { SoFar text.now at tally keys.old seen.old foldings.old × (at < length text.now) }
-    ensures { TurnIs text.now at tally keys.old foldings.old keys.new seen.new foldings.new result }
+// The item at a place: the next place, or its fault.
+fn enter(text: &[u8], notes: &mut Notes, at: usize) -> Result<usize, Fault>
+    requires { SoFar text.now at notes.old × (at < length text.now) }
+    ensures { TurnIs text.now at notes.old notes.new result }
 {
     let rest = &text[at..];
     match item(rest) {
-        Entry::Rule(four) => behind(
-            note_four(text, keys, seen, tally, at, rest, four),
-            at + four.next,
-        ),
-        Entry::Folding { key, target, next } => {
-            behind(note_folding(foldings, tally, key, target), at + next)
+        Entry::Rule(four) => {
+            note_four(text, notes, at, rest, four)?;
+            Ok(at + four.next)
         }
-        Entry::LineEnd { next } => Turn::On(at + next, tally),
-        Entry::Comment { next } => Turn::On(at + next, tally),
-        Entry::Unknown => Turn::Stop(Fault::NotRecognised),
+        Entry::Folding { key, target, next } => {
+            notes.note_folding(key, target)?;
+            Ok(at + next)
+        }
+        Entry::LineEnd { next } | Entry::Comment { next } => Ok(at + next),
+        Entry::Unknown => Err(Fault::NotRecognised),
     }
 }
 
-// All items of a text; then the numbers of its rules are put in order.
-pub(crate) fn survey(
-    text: &[u8],
-    keys: &mut [u64],
-    seen: &mut [u8],
-    foldings: &mut [u64],
-) -> Surveyed
-    requires { Room text.now keys.old seen.old foldings.old }
-    ensures { SurveyIs text.now keys.new foldings.new (verdict blank (items text.now)) result }
+// All items of a text; then its rules are put in order.
+pub(crate) fn survey(text: &[u8], notes: &mut Notes) -> Result<(), FaultAt>
+    requires { (length text.now ≤ longest_text) × (notes.old.tally ≡ none_noted) }
+    ensures { SurveyIs text.now notes.new (verdict blank (items text.now)) result }
 {
-    let mut at: usize = 0;
-    let mut tally = Tally {
-        read: 0,
-        rules: 0,
-        foldings: 0,
-        bits: 0,
-    };
+    let mut at = 0;
+    // Stays: an item tells where the next one begins, so there is no range to go over.
     while at < text.len() {
-        match enter(text, keys, seen, foldings, at, tally) {
-            Turn::On(next, more) => {
-                at = next;
-                tally = more;
-            }
-            Turn::Stop(fault) => {
-                return Surveyed::Faulty(fault, at);
-            }
-        }
+        at = enter(text, notes, at).map_err(|fault| FaultAt { fault, at })?;
     }
-    sort_keys(keys, tally.rules);
-    Surveyed::Fine(tally)
+    notes.sort();
+    Ok(())
 }

@@ -73,7 +73,7 @@ chars_then (c ∷ cs) s h =
     chars_front (bytes_of_all (c ∷ cs) ++ s) c (length (bytes_of c)) (first c cs s t.0) (bytes_count c).0
     ∙ ap (λ (l : List ℕ). c ∷ l) (ap chars_of (behind c cs s) ∙ chars_then cs s t.1)
 
-bad_then : (cs s : List ℕ) → every scalar cs ≡ true → bad_place (bytes_of_all cs ++ s) ≡ length (bytes_of_all cs) + bad_place s
+pub bad_then : (cs s : List ℕ) → every scalar cs ≡ true → bad_place (bytes_of_all cs ++ s) ≡ length (bytes_of_all cs) + bad_place s
 bad_then [] s h = sym (zero-add (bad_place s))
 bad_then (c ∷ cs) s h =
     let t = and_true (scalar c) (every scalar cs) h in

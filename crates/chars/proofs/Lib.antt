@@ -2,9 +2,9 @@ pub mod Texts
 pub mod Exact
 pub mod Places
 pub mod Checks
-pub mod Whites
-pub mod Vowels
+pub mod Counted
 pub mod Lowering
 pub mod Only
 pub mod Splits
+pub mod Standard
 pub mod Faults

@@ -31,19 +31,17 @@ two_numbers : (a : ℕ) (s : List ℕ) → two a (get_or s 0 0 ∷ get_or s 1 0 
 two_numbers a [] = refl
 two_numbers a (b ∷ s) = refl
 
--- The character in front is that of the first four bytes, with zeros behind the end.
-pub numbers : (s : List ℕ) → (length s ≡ 0 → ⊥) → char_of (get_or s 0 0 ∷ get_or s 1 0 ∷ get_or s 2 0 ∷ get_or s 3 0 ∷ []) ≡ char_of s
-numbers [] h = absurd (h refl)
-numbers (a ∷ s) h =
+-- The character in front is that of the first byte and of three behind it, with zeros behind the end.
+pub front : (a : ℕ) (s : List ℕ) → char_of (a ∷ get_or s 0 0 ∷ get_or s 1 0 ∷ get_or s 2 0 ∷ []) ≡ char_of (a ∷ s)
+front a s =
     λ i. cond (leb a 0x7F) (One a 1)
     (cond (between 0xC0 0xDF a) (two_numbers a s i)
     (cond (between 0xE0 0xEF a) (three_numbers a s i)
     (cond (between 0xF0 0xF7 a) (four_numbers a s i) Bad)))
 
--- No bytes, no character.
-pub empty : (s : List ℕ) → length s ≡ 0 → End ≡ char_of s
-empty [] h = refl
-empty (a ∷ s) h = absurd (omega arith)
+pub numbers : (s : List ℕ) → (length s ≡ 0 → ⊥) → char_of (get_or s 0 0 ∷ get_or s 1 0 ∷ get_or s 2 0 ∷ get_or s 3 0 ∷ []) ≡ char_of s
+numbers [] h = absurd (h refl)
+numbers (a ∷ s) h = front a s
 
 -- Behind the end nothing stands.
 pub behind : (s : List ℕ) (at : ℕ) → length s ≤ at → End ≡ char_of (drop at s)

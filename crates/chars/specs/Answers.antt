@@ -1,14 +1,12 @@
 -- The answers of this crate's functions, by cases: the bounds of a character at a place, the check of a whole text, a vowel or none.
 -- 01, "Numbers that come back" and "Port order and changes of shape". Assumes nothing.
-use Rattle.std.specs.Prelude.{ℕ, ◌+◌, ◌<◌, ◌≤◌, ◌≡◌, Bool, true, false, cond, List, eqb}
+use Rattle.std.specs.Prelude.{ℕ, ◌+◌, ◌<◌, ◌≤◌, ◌≡◌, Bool, true, false, cond, List, eqb, Option, Some, None, Result, Ok, Err}
 use Rattle.laws.specs.Lists.{some}
 use Rattle.chars.specs.Utf8.{scalar, is_text, bad_place}
 use Rattle.chars.specs.Letters.{vowel}
 use Rattle.chars.specs.declared.Char.{Char}
 use Rattle.chars.specs.declared.Char.TheVariants.{One, Bad, End}
-use Rattle.chars.specs.declared.Checked.{Checked}
-use Rattle.chars.specs.declared.Checked.TheVariants.{BadAt, Text}
-use Rattle.chars.specs.declared.Next.{Next}
+use Rattle.chars.specs.declared.NotUtf8.{NotUtf8}
 
 -- A character c of w bytes at a place of n bytes.
 pub record OneWithin (at n c w : ℕ) : Type 0 where
@@ -29,10 +27,10 @@ is_zero b = eqb b 0
 
 -- 01: refusal 2 is for what is "not UTF-8, or rule text holds a zero byte". The place of the first sequence that is not UTF-8; where there is none,
 -- whether some byte is zero.
-abbrev pub checked : List ℕ → Checked
-checked s = cond (is_text s) (Text (some is_zero s)) (BadAt (bad_place s))
+abbrev pub checked : List ℕ → Result Bool NotUtf8
+checked s = cond (is_text s) (Ok (some is_zero s)) (Err (record { at = bad_place s }))
 
 -- 01: "`is_vowel` (a none answers no)".
-abbrev pub vowel_next : Next → Bool
-vowel_next (Next.Is c) = vowel c
-vowel_next Next.None = false
+abbrev pub vowel_next : Option ℕ → Bool
+vowel_next (Some c) = vowel c
+vowel_next None = false

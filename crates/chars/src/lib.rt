@@ -16,23 +16,15 @@ const CYRILLIC_FIRST: u32 = 0x400;
 const CYRILLIC_LAST: u32 = 0x45F;
 
 // What stands in front of some bytes: a character with its width in bytes, a sequence that is not UTF-8, or nothing.
-#[derive(Clone, Copy)]
+#[derive(Clone, Copy, PartialEq, Eq)]
 pub enum Char {
     One(u32, usize),
     Bad,
     End,
 }
 
-// A whole text: the place of the first sequence that is not UTF-8, or, of UTF-8, whether it holds a zero byte.
-#[derive(Clone, Copy)]
-pub enum Checked {
-    BadAt(usize),
-    Text(bool),
-}
-
-// The character that follows, or none.
-#[derive(Clone, Copy)]
-pub enum Next {
-    Is(u32),
-    None,
+// The place of the first sequence that is not UTF-8.
+#[derive(Clone, Copy, PartialEq, Eq)]
+pub struct NotUtf8 {
+    pub at: usize,
 }

@@ -1,54 +1,24 @@
 // Lowercase of U+0000 to U+017F and of U+0400 to U+045F, each by a table. Every other character is its own lowercase.
-ghost use Rattle.std.specs.Prelude.{◌≡◌, ◌≤◌};
-ghost use Rattle.chars.specs.Letters.{latin_end, lower_of};
-ghost use Rattle.chars.specs.Table.{table, cyrillic_table};
+ghost use Rattle.std.specs.Prelude.{◌≡◌};
+ghost use Rattle.chars.specs.Letters.{lower_of};
 
 use super::letters::is_cyrillic;
 use super::{CYRILLIC, CYRILLIC_FIRST, LATIN};
 
-fn wide(x: u16) -> u32
-    ensures { result ≡ x }
-{
-    x as u32
-}
-
-// The table, made once before a loop and lent: a constant array is laid on the stack anew wherever it is named.
-pub fn lowers() -> [u16; LATIN]
-    ensures { result ≡ table }
-{
-    LOWER
-}
-
-pub fn lower(t: &[u16; LATIN], c: u32) -> u32
-    requires { t.now ≡ table }
+pub fn lower(c: u32) -> u32
     ensures { result ≡ lower_of c }
 {
-    if LATIN as u32 <= c {
-        return lower_beyond(c);
+    if c < LATIN as u32 {
+        u32::from(LOWER[c as usize])
+    } else if is_cyrillic(c) {
+        u32::from(CYRILLIC_LOWER[(c - CYRILLIC_FIRST) as usize])
+    } else {
+        c
     }
-    wide(t[c as usize])
 }
 
-// The second table is named where it is needed: it is small, and most names have no use for it.
-fn cyrillic_lowers() -> [u16; CYRILLIC]
-    ensures { result ≡ cyrillic_table }
-{
-    CYRILLIC_LOWER
-}
-
-// Behind the first table.
-fn lower_beyond(c: u32) -> u32
-    requires { latin_end ≤ c }
-    ensures { result ≡ lower_of c }
-{
-    if !is_cyrillic(c) {
-        return c;
-    }
-    let t = cyrillic_lowers();
-    wide(t[(c - CYRILLIC_FIRST) as usize])
-}
-
-const LOWER: [u16; LATIN] = [
+// A static is read where it lies; a constant array would be laid on the stack wherever it is named.
+static LOWER: [u16; LATIN] = [
     0, 1, 2, 3, 4, 5, 6, 7, 8, 9, 10, 11, 12, 13, 14, 15, 16, 17, 18, 19, 20, 21, 22, 23, 24, 25,
     26, 27, 28, 29, 30, 31, 32, 33, 34, 35, 36, 37, 38, 39, 40, 41, 42, 43, 44, 45, 46, 47, 48, 49,
     50, 51, 52, 53, 54, 55, 56, 57, 58, 59, 60, 61, 62, 63, 64, 97, 98, 99, 100, 101, 102, 103,
@@ -71,7 +41,7 @@ const LOWER: [u16; LATIN] = [
     378, 380, 380, 382, 382, 383,
 ];
 
-const CYRILLIC_LOWER: [u16; CYRILLIC] = [
+static CYRILLIC_LOWER: [u16; CYRILLIC] = [
     1104, 1105, 1106, 1107, 1108, 1109, 1110, 1111, 1112, 1113, 1114, 1115, 1116, 1117, 1118, 1119,
     1072, 1073, 1074, 1075, 1076, 1077, 1078, 1079, 1080, 1081, 1082, 1083, 1084, 1085, 1086, 1087,
     1088, 1089, 1090, 1091, 1092, 1093, 1094, 1095, 1096, 1097, 1098, 1099, 1100, 1101, 1102, 1103,

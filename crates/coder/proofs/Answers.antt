@@ -2,11 +2,15 @@
 -- alternatives. Assumes nothing.
 use Prim.Native.Nat.{ℕ, ◌+◌, ◌/◌, ◌≤◌}
 use mathlib.Core.Path.{◌≡◌, refl, sym, ap, subst, ◌∙◌}
-use mathlib.Core.Bool.{Bool, true, false, cond, false≢true}
-use mathlib.Core.Option.{Option, none, some}
-use mathlib.Core.List.{List, [], map}
+use mathlib.Core.Bool.{Bool, true, false, cond}
+use mathlib.Core.Option.{none, some}
+use mathlib.Core.List.{List, map}
 use lib.Dec.{ltb}
 use lib.ListN.{length}
+use Rattle.std.specs.Prelude.{Some, None as NoneOf, Result, Ok, Err, IsErrAnd}
+use Rattle.coder.specs.declared.CodeError.{CodeError}
+use Rattle.coder.specs.declared.CodeError.TheVariants.{RoomTooSmall}
+use Rattle.std.proofs.lemmas.Option.{none-some, same_Some}
 use Rattle.laws.specs.Lists.{every, same}
 use Rattle.laws.specs.Once.{once}
 use Rattle.chars.specs.Utf8.{is_text, chars_of, bad_place, fail_place}
@@ -20,48 +24,46 @@ use Rattle.coder.specs.Name.{prepared, Named, most_name, named}
 use Rattle.coder.specs.Name.Named.{Refused, Chars}
 use Rattle.coder.specs.Walk.{uses}
 use Rattle.coder.specs.Answer.{Coded, no_codes, smaller, listing, room, listed, encoded, answered, coded_by, plated, list_answer, encode_answer}
-use Rattle.coder.specs.Outcome.{listed_to, code_answer}
+use Rattle.coder.specs.Outcome.{told, listed_to, code_answer}
 use Rattle.plate.proofs.Facts.{rules_good, rules_ordered}
 use Rattle.coder.proofs.Firsts.{uses_good, cut_eight, encode_listed}
 
 -- ---- the branches
 
--- by cases on an outcome
-abbrev is_none : Option (List Branch) → Bool
-is_none none = true
-is_none (some x) = false
-
-abbrev branches : List Branch → Option (List Branch) → List Branch
-branches d none = d
-branches d (some x) = x
-
--- Two outcomes that are the same are both over, or both the same branches.
-told : (t o : Bool) (x y : List Branch) → cond t none (some x) ≡ cond o none (some y) → (t ≡ o) × (o ≡ false → y ≡ x)
-told true true x y e = (refl, λ f. absurd (false≢true (sym f)))
-told true false x y e = absurd (false≢true (sym (ap is_none e)))
-told false true x y e = absurd (false≢true (ap is_none e))
-told false false x y e = (refl, λ f. sym (ap (branches []) e))
-
-module _ (us : List Use) (lent : List ℕ) (n : ℕ) (e : n ≡ smaller 64 ((length lent + 1) / 7)) (o : Bool) (bs : List Branch) (f : outcome n us start ≡ cond o none (some bs)) where
-  says : (over n us start ≡ o) × (o ≡ false → bs ≡ run us start)
-  unfolding outcome
-  says = told (over n us start) o (run us start) bs f
-
-  by_room : (t : Bool) → o ≡ t → listed us lent ≡ cond t (no_codes 12 lent) (listing (codes us) lent)
+module _ (us : List Use) (lent : List ℕ) (n : ℕ) (e : n ≡ smaller 64 ((length lent + 1) / 7)) where
+  by_room : (t : Bool) → over n us start ≡ t → listed us lent ≡ cond t (no_codes 12 lent) (listing (codes us) lent)
   unfolding room
-  by_room t g = ap (λ (b : Bool). cond b (no_codes 12 lent) (listing (codes us) lent)) (ap (λ (m : ℕ). over m us start) (sym e) ∙ says.0 ∙ g)
+  by_room t g = ap (λ (b : Bool). cond b (no_codes 12 lent) (listing (codes us) lent)) (ap (λ (m : ℕ). over m us start) (sym e) ∙ g)
 
-  pub too_many : o ≡ true → listed us lent ≡ no_codes 12 lent
-  too_many g = by_room true g
+  -- What an outcome says.
+  over_is : (t : Bool) → outcome n us start ≡ NoneOf → over n us start ≡ t → t ≡ true
+  unfolding outcome
+  over_is true f g = refl
+  over_is false f g = absurd (none-some (run us start) (sym f ∙ ap (λ (b : Bool). cond b NoneOf (Some (run us start))) g))
 
-  pub within : o ≡ false → length bs ≤ n
-  within g = subst (λ (l : List Branch). length l ≤ n) (sym (says.1 g)) (run_fits n us start (says.0 ∙ g))
+  run_is : (bs : List Branch) (t : Bool) → outcome n us start ≡ Some bs → over n us start ≡ t → (t ≡ false) × (run us start ≡ bs)
+  unfolding outcome
+  run_is bs true f g = absurd (none-some bs (sym (ap (λ (b : Bool). cond b NoneOf (Some (run us start))) g) ∙ f))
+  run_is bs false f g = (refl, same_Some (run us start) bs (sym (ap (λ (b : Bool). cond b NoneOf (Some (run us start))) g) ∙ f))
 
-  pub all_listed : o ≡ false → (cs : List (List ℕ)) → cs ≡ once same (map code bs) → (k : ℕ) (buffer : List ℕ) → length cs ≡ k → buffer ≡ (listing cs lent).buffer
-      → record { number = 0; count = k; place = 0; buffer = buffer } ≡ listed us lent
-  all_listed g cs e k buffer j l =
-      sym (by_room false g ∙ ap (λ (x : List (List ℕ)). listing x lent) (ap (λ (x : List Branch). once same (map code x)) (sym (says.1 g)) ∙ sym e)
-      ∙ (λ y. record { number = 0; count = j y; place = 0; buffer = sym l y }))
+  pub too_many : outcome n us start ≡ NoneOf → no_codes 12 lent ≡ listed us lent
+  too_many f = sym (by_room true (over_is (over n us start) f refl))
+
+  module _ (bs : List Branch) (f : outcome n us start ≡ Some bs) where
+    pub within : length bs ≤ n
+    within = let r = run_is bs (over n us start) f refl in subst (λ (l : List Branch). length l ≤ n) r.1 (run_fits n us start r.0)
+
+    pub all_listed : (cs : List (List ℕ)) → cs ≡ once same (map code bs) → (k : ℕ) (buffer : List ℕ) → length cs ≡ k → buffer ≡ (listing cs lent).buffer
+        → record { number = 0; count = k; place = 0; buffer = buffer } ≡ listed us lent
+    all_listed cs e k buffer j l =
+        let r = run_is bs (over n us start) f refl in
+        sym (by_room false r.0 ∙ ap (λ (x : List (List ℕ)). listing x lent) (ap (λ (x : List Branch). once same (map code x)) r.1 ∙ sym e)
+        ∙ (λ y. record { number = 0; count = j y; place = 0; buffer = sym l y }))
+
+-- An error that is refusal 12.
+pub told_room : (r : Result ℕ CodeError) (lent : List ℕ) → IsErrAnd r (λ e. e ≡ RoomTooSmall) → told r lent ≡ no_codes 12 lent
+told_room (Ok n) lent h = absurd h
+told_room (Err e) lent h = ap (λ (x : CodeError). told (Err x) lent) h
 
 -- ---- list and encode
 

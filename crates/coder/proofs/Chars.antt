@@ -9,15 +9,15 @@ use native.Mathlib.Omega.{arith}
 use borrow.Author.Tests.{lt-ltb, le-ltb, le-leb}
 use lib.ListN.{length, take, drop, get_or, set, length-drop, drop_of_length-le}
 use lib.Seq.{drop-drop, drop-cons, take-suc-set}
+use Rattle.std.specs.Prelude.{Result, Err}
 use Rattle.laws.specs.Lists.{every}
 use Rattle.laws.proofs.Lists.{rest}
 use Rattle.chars.specs.Utf8.{char_of, is_text, text_from, chars_from, chars_of, bad_place, fail_place}
 use Rattle.chars.specs.Letters.{white, cyrillic, tabled, allowed, lower_of}
 use Rattle.chars.specs.declared.Char.{Char}
 use Rattle.chars.specs.declared.Char.TheVariants.{One, Bad}
-use Rattle.chars.specs.Answers.{checked}
-use Rattle.chars.specs.declared.Checked.{Checked}
-use Rattle.chars.specs.declared.Checked.TheVariants.{BadAt, Text}
+use Rattle.chars.specs.Answers.{Reaches, checked}
+use Rattle.chars.specs.declared.NotUtf8.{NotUtf8}
 use Rattle.chars.proofs.Texts.{kind, text_front, chars_front}
 use Rattle.chars.proofs.Exact.{decoded_one}
 use Rattle.chars.proofs.Checks.{Says, says, sound_front}
@@ -74,6 +74,22 @@ plain_here name at h small inked =
       allowed = ap (λ (t : Bool). t || cyrillic (get_or name at 0)) (lt-ltb (get_or name at 0) 0x180 (omega arith));
     }
 
+-- A character stands at a place that is neither dropped nor refused.
+pub record Stands (name : List ℕ) (at c w : ℕ) : Type 0 where
+  pub some : 1 ≤ w
+  pub within : at + w ≤ length name
+  pub here : char_of (drop at name) ≡ One c w
+  pub inked : white c ≡ false
+  pub allowed : tabled c ≡ true
+
+pub plain_stands : (name : List ℕ) (at c : ℕ) → PlainAt name at c → Stands name at c 1
+plain_stands name at c p = let w = p.within in record { some = omega arith; within = omega arith; here = p.here; inked = p.inked; allowed = p.allowed }
+
+pub one_stands : (name : List ℕ) (at : ℕ) (r : Char) (c w : ℕ) → r ≡ char_of (drop at name) → Reaches at (length name) r → r ≡ One c w → white c ≡ false → tabled c ≡ true → Stands name at c w
+one_stands name at r c w e b f inked allowed =
+    let h = rw f at b in
+    record { some = h.some; within = h.within; here = sym e ∙ f; inked = inked; allowed = allowed }
+
 -- ---- the rest of a name
 
 -- The same as `named`, of the bytes from a place on; `made` are the characters so far.
@@ -84,27 +100,16 @@ unfoldable pub ending : Plate → List ℕ → ℕ → List ℕ → Named
 ending p made at bytes = cond (is_text bytes) (text p made at bytes) (Refused 2 (at + bad_place bytes))
 
 -- What the check of the bytes from a place on says, where a character that is not allowed stands there.
-module _ (at : ℕ) (name : List ℕ) (r : Checked) (e : r ≡ checked (take (length name - at) (drop at name))) where
+module _ (at : ℕ) (name : List ℕ) (r : Result Bool NotUtf8) (e : r ≡ checked (take (length name - at) (drop at name))) where
   told : Says (drop at name) r
   told = says (drop at name) r (e ∙ ap checked (rest at name))
 
   -- The place of a bad sequence lies within the name.
-  pub within : at ≤ length name → (n : ℕ) → r ≡ BadAt n → at + n ≤ length name
-  within h n f =
+  pub within : at ≤ length name → (y : NotUtf8) → r ≡ Err y → at + y.at ≤ length name
+  within h y f =
       let s = rw f at told in
       let b = sound_within 0 (drop at name) in
       let l = length-drop at name in omega arith
-
-  pub broken_behind : (n : ℕ) → r ≡ BadAt n → fault.NotUtf8 (at + n) ≡ foreign_fault at (drop at name)
-  broken_behind n f =
-      let s = rw f at told in
-      ap (λ (k : ℕ). fault.NotUtf8 (at + k)) s.1
-      ∙ ap (λ (t : Bool). cond t (fault.NotAllowed at) (fault.NotUtf8 (at + bad_place (drop at name)))) (sym s.0)
-
-  pub text_behind : (holds : Bool) → r ≡ Text holds → fault.NotAllowed at ≡ foreign_fault at (drop at name)
-  text_behind holds f =
-      let s = rw f at told in
-      ap (λ (t : Bool). cond t (fault.NotAllowed at) (fault.NotUtf8 (at + bad_place (drop at name)))) (sym s.0)
 
 -- A bad sequence is no text.
 text_bad : (s : List ℕ) → char_of s ≡ Bad → is_text s ≡ false
@@ -191,9 +196,9 @@ module _ (p : Plate) (name : List ℕ) where
             (append_assoc (take count chars) (v ∷ []) (prepared p behind) ∙ sym (rw (characters, h) (ap (λ (x : ℕ). take count chars ++ (x ∷ prepared p behind)) (sym i))))
 
         -- One that is not allowed is the fault, or a bad sequence behind it.
-        pub strange : white c ≡ false → tabled c ≡ false → (x : NameFault) → x ≡ foreign_fault at here → named_by x [] ≡ named p name
+        pub strange : white c ≡ false → tabled c ≡ false → (x : NameFault) → x ≡ foreign_fault at here → named_by x ≡ named p name
         unfolding ending
-        strange h k x same = ap (λ (y : NameFault). named_by y []) same ∙ go (is_text here) ∙ m
+        strange h k x same = ap named_by same ∙ go (is_text here) ∙ m
           where
             fails : allowed c ≡ false
             fails = ap (λ (t : Bool). t || tabled c) h ∙ k
@@ -204,7 +209,7 @@ module _ (p : Plate) (name : List ℕ) where
             place : at ≡ at + fail_place allowed here
             place = sym (add-zero at) ∙ ap (λ (n : ℕ). at + n) (sym (fail_here allowed here c w one g fails))
 
-            go : (t : Bool) → named_by (cond t (fault.NotAllowed at) (fault.NotUtf8 (at + bad_place here))) []
+            go : (t : Bool) → named_by (cond t (fault.NotAllowed at) (fault.NotUtf8 (at + bad_place here)))
                 ≡ cond t (text p (take count chars) at here) (Refused 2 (at + bad_place here))
             go true = ap (Refused 11) place ∙ ap (λ (t : Bool). cond t (Chars (take count chars ++ prepared p here)) (Refused 11 (at + fail_place allowed here))) (sym found)
             go false = refl

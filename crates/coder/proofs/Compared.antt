@@ -21,7 +21,7 @@ use Rattle.plate.specs.declared.Beginning.{Beginning}
 use Rattle.plate.specs.declared.Beginning.TheVariants.{Is, Not, Unsaid}
 use Rattle.coder.specs.Walk.{letters}
 use Rattle.coder.specs.Held.{ahead, Plain, AheadIs}
-use Rattle.coder.specs.declared.Ahead.{Ahead}
+use Rattle.coder.specs.declared.walk.Ahead.{Ahead}
 
 -- ---- one more
 

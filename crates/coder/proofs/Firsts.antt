@@ -2,7 +2,7 @@
 -- first alternatives. Assumes nothing.
 use Prim.Native.Nat.{ℕ, zero, suc, ◌+◌, ◌/◌, ◌≤◌, ◌<◌}
 use mathlib.Core.Path.{◌≡◌, refl, sym, ap, ap₂, ◌∙◌}
-use mathlib.Core.Bool.{Bool, true, false, cond, ◌||◌}
+use mathlib.Core.Bool.{Bool, true, false, cond, ◌&&◌, ◌||◌}
 use mathlib.Core.Option.{Option, none, some}
 use mathlib.Core.List.{List, [], ◌∷◌}
 use native.Mathlib.Omega.{arith}
@@ -15,7 +15,7 @@ use Rattle.laws.proofs.Tests.{and_true, both_true, by_test, between_true}
 use Rattle.laws.proofs.Bits.{by_order}
 use Rattle.laws.proofs.Many.{every_append}
 use Rattle.chars.specs.Digits.{is_alternative}
-use Rattle.plate.specs.Plate.{Rule, good_rule, good_field, ordered}
+use Rattle.plate.specs.Plate.{Rule, good_rule, good_pattern, good_field, ordered}
 use Rattle.branches.specs.Branches.{Use, start, over, codes}
 use Rattle.branches.specs.Choice.{Single}
 use Rattle.branches.proofs.Room.{no_room, single_fits}
@@ -25,7 +25,6 @@ use Rattle.coder.specs.Search.Hit.{Taken, None}
 use Rattle.coder.specs.Answer.{no_codes, listing, room, listed, encoded}
 use Rattle.coder.specs.Held.{cut_all}
 use Rattle.coder.proofs.Hits.{search_brings}
-use Rattle.coder.proofs.Alternatives.{rule_field}
 
 -- 1 to 8 alternatives
 abbrev pub good_use : Use → Bool
@@ -48,12 +47,20 @@ hit_good known (r ∷ more) c cs g =
 count_good : (f : List (List ℕ)) → good_field f ≡ true → between 1 8 (length f) ≡ true
 count_good f g = (and_true (between 1 8 (length f)) (every is_alternative f) g).0
 
+-- Each field of a good rule is good.
+fields_good : (r : Rule) → good_rule r ≡ true → (good_field r.start ≡ true) × (good_field r.vowel ≡ true) × (good_field r.other ≡ true)
+fields_good r g =
+    let fields = (and_true (good_pattern r.pattern) (good_field r.start && (good_field r.vowel && good_field r.other)) g).1 in
+    let first = and_true (good_field r.start) (good_field r.vowel && good_field r.other) fields in
+    let others = and_true (good_field r.vowel) (good_field r.other) first.1 in
+    (first.0, others.0, others.1)
+
 field_good : (before : Option ℕ) (behind : List ℕ) (r : Rule) → good_rule r ≡ true → between 1 8 (length (field before behind r)) ≡ true
-field_good none behind r g = count_good r.start (rule_field r g 0)
+field_good none behind r g = count_good r.start (fields_good r g).0
 field_good (some before) behind r g =
     by_test (λ (f : List (List ℕ)). between 1 8 (length f) ≡ true) (vowel_follows behind) r.vowel r.other
-    (λ _. count_good r.vowel (rule_field r g 1))
-    (λ _. count_good r.other (rule_field r g 2))
+    (λ _. count_good r.vowel (fields_good r g).1)
+    (λ _. count_good r.other (fields_good r g).2)
 
 brings_good : (before : Option ℕ) (c : ℕ) (cs : List ℕ) (h : Hit) → GoodHit h → every good_use (brings before c cs h).uses ≡ true
 brings_good before c cs (Taken r) g = both_true (field_good before (drop (length (letters r)) (c ∷ cs)) r g) refl

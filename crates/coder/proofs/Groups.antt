@@ -16,9 +16,8 @@ use Rattle.laws.proofs.Cuts.{every_take, every_drop}
 use Rattle.plate.specs.Plate.{Rule, good_rule, first_code}
 use Rattle.plate.specs.Read.{rule_at, plate_in, accepted}
 use Rattle.plate.specs.Stands.{Here}
-use Rattle.plate.specs.Noted.{is_of, is_other, GroupIs, AllPlaced}
+use Rattle.plate.specs.Noted.{is_of, is_other, GroupIs}
 use Rattle.plate.proofs.Facts.{rules_good}
-use Rattle.plate.proofs.Noting.{placed_room, placed_here, placed_rule}
 use Rattle.coder.specs.Walk.{letters, starts_with}
 use Rattle.coder.specs.Search.{Hit, hit_from}
 use Rattle.coder.specs.Search.Hit.{Taken, None}
@@ -66,60 +65,60 @@ in_group rs first behind g (c ∷ cs) l h =
 
 -- ---- the loop over a group's rules
 
-module _ (s places rest : List ℕ) (first behind : ℕ) where
+module _ (s rest : List ℕ) (first behind : ℕ) where
   abbrev rules : List Rule
   rules = (plate_in s).rules
 
   -- From rule i on it is as from the first, and the rules left are the group's.
-  abbrev pub Left : ℕ → Type 0
-  Left i =
-      (first ≤ i) × (i ≤ behind) × (every (is_of (get_or rest 0 0)) (slice i behind rules) ≡ true) × (hit_at (ltb first i) (slice i behind rules) rest ≡ hit_at false rules rest)
+  pub record Left (i : ℕ) : Type 0 where
+    pub from : first ≤ i
+    pub to : i ≤ behind
+    pub group : every (is_of (get_or rest 0 0)) (slice i behind rules) ≡ true
+    pub hit : hit_at (ltb first i) (slice i behind rules) rest ≡ hit_at false rules rest
 
-  module _ (a : accepted s ≡ true) (p : AllPlaced s places)
-      (g : GroupIs rules (get_or rest 0 0) first behind) (l : 0 < length rest) where
+  module _ (a : accepted s ≡ true) (g : GroupIs rules (get_or rest 0 0) first behind) (l : 0 < length rest) where
     pub left_start : Left first
-    left_start = (omega arith, g.rising, g.inside, in_group rules first behind (rules_good s a) rest l g)
+    left_start = record { from = omega arith; to = g.rising; group = g.inside; hit = in_group rules first behind (rules_good s a) rest l g }
 
-    pub left_end : (i : ℕ) → behind ≤ i → Left i → hit_at false rules rest ≡ None (ltb first behind)
-    left_end i h k =
-        let same : i ≡ behind = let b = k.1 in omega arith in
-        sym k.3 ∙ ap (λ (m : ℕ). hit_at (ltb first m) (slice m behind rules) rest) same ∙ hit_end (slice behind behind rules) (ltb first behind) rest (slice_empty behind rules)
+    pub left_end : (i : ℕ) → behind ≤ i → Left i → (t : Bool) → ltb first behind ≡ t → hit_at false rules rest ≡ None t
+    left_end i h k t e =
+        let same : i ≡ behind = let b = k.to in omega arith in
+        sym k.hit ∙ ap (λ (m : ℕ). hit_at (ltb first m) (slice m behind rules) rest) same
+        ∙ hit_end (slice behind behind rules) (ltb first behind) rest (slice_empty behind rules)
+        ∙ ap None e
+
+    -- There are none.
+    pub no_group : behind ≤ first → hit_at false rules rest ≡ None false
+    no_group h = left_end first h left_start false (le-ltb first behind h)
+
+    -- None of them fits.
+    pub no_match : (i : ℕ) → first < behind → behind ≤ i → Left i → hit_at false rules rest ≡ None true
+    no_match i f h k = left_end i h k true (lt-ltb first behind f)
 
     -- the rule number i
-    module _ (i : ℕ) (h : i < behind) where
-      abbrev here : ℕ
-      here = get_or places i 0
-
-      counted : i < length rules
+    module _ (i : ℕ) (h : i < behind) (k : Left i) (r : Rule) (is : (d : Rule) → get_or rules i d ≡ r) (good : good_rule r ≡ true) where
+      pub counted : i < length rules
       counted = let w = g.within in omega arith
 
-      pub has_place : i < length places
-      has_place = placed_room s places a p i counted
+      next : slice i behind rules ≡ r ∷ slice (i + 1) behind rules
+      next = slice-cons i behind rules r h g.within ∙ ap₂ (λ (q : Rule) (m : ℕ). q ∷ slice m behind rules) (is r) (sym (add-one i))
 
-      pub stands : Here s here
-      stands = placed_here s places a p i counted
+      pub left_hit : begins (letters r) rest ≡ true → hit_at false rules rest ≡ Taken r
+      left_hit b = sym k.hit ∙ hit (slice i behind rules) (ltb first i) r (slice (i + 1) behind rules) next rest l b
 
-      next : slice i behind rules ≡ rule_at s here ∷ slice (i + 1) behind rules
-      next =
-          slice-cons i behind rules (rule_at s 0) h g.within
-          ∙ ap₂ (λ (r : Rule) (m : ℕ). r ∷ slice m behind rules) (placed_rule s places a p i counted (rule_at s 0)) (sym (add-one i))
-
-      pub left_hit : Left i → begins (letters (rule_at s here)) rest ≡ true → hit_at false rules rest ≡ Taken (rule_at s here)
-      left_hit k b = sym k.3 ∙ hit (slice i behind rules) (ltb first i) (rule_at s here) (slice (i + 1) behind rules) next rest l b
-
-      pub left_miss : Left i → begins (letters (rule_at s here)) rest ≡ false → Left (i + 1)
-      left_miss k b =
-          let all = and_true (is_of (get_or rest 0 0) (rule_at s here)) (every (is_of (get_or rest 0 0)) (slice (i + 1) behind rules)) (ap (every (is_of (get_or rest 0 0))) (sym next) ∙ k.2) in
-          let f = first_is (rule_at s here) stands.good in
-          let low = k.0 in (
-            omega arith,
-            omega arith,
-            all.1,
-            ap (λ (t : Bool). hit_at t (slice (i + 1) behind rules) rest) (lt-ltb first (i + 1) (omega arith))
-                ∙ sym (miss (slice i behind rules) (ltb first i) (rule_at s here) (slice (i + 1) behind rules) next rest (first_code (rule_at s here)) f.0 f.1 l
-                (eqb-true (first_code (rule_at s here)) (get_or rest 0 0) all.0) b)
-                ∙ k.3,
-          )
+      pub left_miss : begins (letters r) rest ≡ false → Left (i + 1)
+      left_miss b =
+          let all = and_true (is_of (get_or rest 0 0) r) (every (is_of (get_or rest 0 0)) (slice (i + 1) behind rules)) (ap (every (is_of (get_or rest 0 0))) (sym next) ∙ k.group) in
+          let f = first_is r good in
+          let low = k.from in record {
+            from = omega arith;
+            to = omega arith;
+            group = all.1;
+            hit = ap (λ (t : Bool). hit_at t (slice (i + 1) behind rules) rest) (lt-ltb first (i + 1) (omega arith))
+                ∙ sym (miss (slice i behind rules) (ltb first i) r (slice (i + 1) behind rules) next rest (first_code r) f.0 f.1 l
+                (eqb-true (first_code r) (get_or rest 0 0) all.0) b)
+                ∙ k.hit;
+          }
 
 -- A pattern has a character.
 pub one_letter : (s : List ℕ) (at : ℕ) → Here s at → 0 < length (letters (rule_at s at))

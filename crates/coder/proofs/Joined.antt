@@ -1,44 +1,19 @@
 -- Codes joined by bars in a buffer: a code of six bytes stands from byte 7k on, and the bar before it. Assumes nothing.
-use Prim.Native.Nat.{ℕ, zero, suc, ◌+◌, ◌-◌, ◌*◌, ◌≤◌, ◌<◌}
-use mathlib.Core.Path.{◌≡◌, refl, sym, ap, ap₂, ◌∙◌}
-use mathlib.Core.List.{List, [], ◌∷◌, ◌++◌, map, append_assoc, append-nil}
+use Prim.Native.Nat.{ℕ, suc, ◌+◌, ◌-◌, ◌*◌, ◌≤◌, ◌<◌}
+use mathlib.Core.Path.{◌≡◌, refl, sym, ap, ap₂, subst, ◌∙◌}
+use mathlib.Core.List.{List, [], ◌∷◌, ◌++◌, append_assoc}
 use native.Mathlib.Omega.{arith}
 use native.Mathlib.Numerals.{add-one}
-use lib.ListN.{length, take, drop, get_or, set, length-append, length-drop, length-map, drop_of_length-le, get_or-map}
-use lib.Seq.{drop-cons, drop-drop, set_at, take_at, drop_at, take-suc, take_all, get_or-take, length-take-le}
-use Rattle.laws.proofs.Lists.{rest}
+use lib.ListN.{length, take, drop, get_or, set, length-append, length-drop}
+use lib.Seq.{drop-cons, drop-drop, set_at, take_at, drop_at, take-suc, take_all, length-take-le}
 use Rattle.laws.specs.Arrays.{Each}
-use Rattle.branches.specs.Branches.{code}
-use Rattle.branches.specs.Held.{BranchOk, branch_of, BranchesOk, branches_of}
-use Rattle.branches.specs.declared.Branch.{Branch}
-use Rattle.branches.specs.declared.Branches.{Branches}
-use Rattle.branches.proofs.Holding.{no_branch}
-use Rattle.branches.proofs.Only.{padded}
+use Rattle.laws.proofs.Arrays.{each_behind}
 use Rattle.coder.specs.Answer.{joined}
-
--- ---- one code
-
--- A byte of a code is stored behind those before it.
-pub copied : (d o out : List ℕ) (i : ℕ) → i < length d → i < length o → out ≡ take i d ++ drop i o → set out i (get_or d i 0) ≡ take (i + 1) d ++ drop (i + 1) o
-copied d o out i h g e =
-    let l : i ≤ length d = omega arith in
-    rw (e, drop-cons o i 0 g, set_at _ _ _ _ _ (length-take-le i d l), add-one i, take-suc d i 0 h, append_assoc)
-
--- The part of a buffer from a place on, given back.
-back : (at : ℕ) (s ys : List ℕ) → take at s ++ (ys ++ drop (length s - at) (drop at s)) ≡ take at s ++ ys
-back at s ys =
-    let h : length (drop at s) ≤ length s - at = simp length-drop (omega arith) in
-    rw (drop_of_length-le (drop at s) h, append-nil)
 
 -- ---- codes of six bytes
 
 abbrev pub Six : List (List ℕ) → Type 0
 Six = Each (λ (c : List ℕ). length c ≡ 6)
-
-six_take : (k : ℕ) (cs : List (List ℕ)) → Six cs → Six (take k cs)
-six_take zero cs h = tt
-six_take (suc k) [] h = tt
-six_take (suc k) (c ∷ cs) h = (h.0, six_take k cs h.1)
 
 -- a bar behind each
 abbrev pub barred : List (List ℕ) → List ℕ
@@ -64,7 +39,7 @@ length_barred (x ∷ xs) h =
     length-append x (124 ∷ barred xs) ∙ omega arith
 
 -- Joined codes have a bar fewer than codes.
-length_joined : (xs : List (List ℕ)) → Six xs → length (joined xs) ≡ 7 * length xs - 1
+pub length_joined : (xs : List (List ℕ)) → Six xs → length (joined xs) ≡ 7 * length xs - 1
 unfolding joined
 length_joined [] h = refl
 length_joined (c ∷ cs) h =
@@ -73,12 +48,12 @@ length_joined (c ∷ cs) h =
 
 -- ---- codes ys, of which the first k stand in the buffer that was lent as o
 
-module _ (ys : List (List ℕ)) (six : Six ys) (k : ℕ) (o : List ℕ) where
+module _ (ys : List (List ℕ)) (k : ℕ) (six : Six (take k ys)) (o : List ℕ) where
   many : k ≤ length ys → length (barred (take k ys)) ≡ 7 * k
-  many h = length_barred (take k ys) (six_take k ys six) ∙ ap (λ (m : ℕ). 7 * m) (length-take-le k ys h)
+  many h = length_barred (take k ys) six ∙ ap (λ (m : ℕ). 7 * m) (length-take-le k ys h)
 
   pub joined_length : k ≤ length ys → length (joined (take k ys)) ≡ 7 * k - 1
-  joined_length h = length_joined (take k ys) (six_take k ys six) ∙ ap (λ (m : ℕ). 7 * m - 1) (length-take-le k ys h)
+  joined_length h = length_joined (take k ys) six ∙ ap (λ (m : ℕ). 7 * m - 1) (length-take-le k ys h)
 
   with_bar : 0 < k → k ≤ length ys → joined (take k ys) ++ (124 ∷ []) ≡ barred (take k ys)
   with_bar g h = go (take k ys) (length-take-le k ys h)
@@ -100,15 +75,20 @@ module _ (ys : List (List ℕ)) (six : Six ys) (k : ℕ) (o : List ℕ) where
       ap (λ (x : List ℕ). set x (7 * k - 1) 124) f
       ∙ rw (drop-cons o (7 * k - 1) 0 l, e, set_at _ _ _ _ _ (joined_length h), ← with_bar g h, append_assoc)
 
-  -- The code behind it, as it is put into the part from byte 7k on.
-  pub put_on : (p zs : List ℕ) → k < length ys → p ≡ barred (take k ys) ++ drop (7 * k) o → zs ≡ get_or ys k [] ++ drop 6 (take (length p - 7 * k) (drop (7 * k) p))
-      → take (7 * k) p ++ (zs ++ drop (length p - 7 * k) (drop (7 * k) p)) ≡ joined (take (k + 1) ys) ++ drop (7 * (k + 1) - 1) o
-  put_on p zs h e f =
-      let g : 7 * (k + 1) - 1 ≡ 7 * k + 6 = omega arith in
+  -- The code behind it, from byte 7k on.
+  pub put_on : (p y behind : List ℕ) → k < length ys → p ≡ barred (take k ys) ++ drop (7 * k) o → y ≡ get_or ys k [] → behind ≡ drop (7 * k + 6) p
+      → take (7 * k) p ++ (y ++ behind) ≡ joined (take (k + 1) ys) ++ drop (7 * (k + 1) - 1) o
+  put_on p y behind h e f g =
       let l : k ≤ length ys = omega arith in
-      let next : joined (take (k + 1) ys) ≡ barred (take k ys) ++ get_or ys k [] = rw (add-one k, take-suc ys k [] h) (joined_snoc (take k ys) (get_or ys k [])) in
-      back (7 * k) p zs
-      ∙ rw (f, rest (7 * k) p, e, take_at _ _ _ (many l), drop_at _ _ _ (many l), drop-drop, g, next, append_assoc)
+      let front : List ℕ = barred (take k ys) in
+      let next : joined (take (k + 1) ys) ≡ front ++ y = rw (add-one k, take-suc ys k [] h) (joined_snoc (take k ys) (get_or ys k []) ∙ ap (λ (c : List ℕ). front ++ c) (sym f)) in
+      let left : behind ≡ drop (7 * (k + 1) - 1) o =
+      g ∙ sym (drop-drop 6 (7 * k) p ∙ ap (λ (n : ℕ). drop n p) {x = 7 * k + 6} {y = 7 * k + 6} refl) ∙ ap (λ (x : List ℕ). drop 6 (drop (7 * k) x)) e
+      ∙ ap (drop 6) (drop_at front (drop (7 * k) o) (7 * k) (many l)) ∙ drop-drop 6 (7 * k) o ∙ ap (λ (n : ℕ). drop n o) {x = 7 * k + 6} {y = 7 * (k + 1) - 1} (omega arith) in
+      ap (λ (x : List ℕ). take (7 * k) x ++ (y ++ behind)) e
+      ∙ ap (λ (x : List ℕ). x ++ (y ++ behind)) (take_at front (drop (7 * k) o) (7 * k) (many l))
+      ∙ sym (append_assoc front y behind)
+      ∙ ap₂ ◌++◌ (sym next) left
 
   -- The buffer keeps its length.
   pub as_long : (q : List ℕ) → k ≤ length ys → 7 * k - 1 ≤ length o → q ≡ joined (take k ys) ++ drop (7 * k - 1) o → length q ≡ length o
@@ -118,35 +98,13 @@ module _ (ys : List (List ℕ)) (six : Six ys) (k : ℕ) (o : List ℕ) where
       whole : (a b : ℕ) → a ≤ b → a + (b - a) ≡ b
       whole a b h = omega arith
 
+-- One more has six.
+pub six_more : (ys : List (List ℕ)) (k : ℕ) → Six (take k ys) → k < length ys → length (get_or ys k []) ≡ 6 → Six (take (k + 1) ys)
+six_more ys k six h e = rw (add-one k, take-suc ys k [] h) (each_behind (λ (c : List ℕ). length c ≡ 6) (take k ys) (get_or ys k []) six e)
+
 -- All codes stand.
-pub all_joined : (ys : List (List ℕ)) → Six ys → (k : ℕ) (o q : List ℕ) → k ≡ length ys → q ≡ joined (take k ys) ++ drop (7 * k - 1) o → q ≡ joined ys ++ drop (length (joined ys)) o
-all_joined ys six k o q n e =
-    e ∙ rw (n, take_all (length ys) ys (omega arith), length_joined ys six)
-
--- ---- the codes of branches: their digits as they are held
-
-abbrev digits_of : Branch → List ℕ
-digits_of b = b.digits
-
-abbrev pub rows : Branches → List (List ℕ)
-rows bs = map digits_of (take bs.count bs.items)
-
-each_code : (l : List Branch) → Each BranchOk l → Six (map digits_of l) × (map code (map branch_of l) ≡ map digits_of l)
-each_code [] h = (tt, refl)
-each_code (b ∷ l) h = let m = each_code l h.1 in ((h.0.0.six, m.0), ap₂ ◌∷◌ (padded b h.0) m.1)
-
-module _ (bs : Branches) (ok : BranchesOk bs) where
-  pub rows_six : Six (rows bs)
-  rows_six = (each_code (take bs.count bs.items) ok.each).0
-
-  pub rows_are : map code (branches_of bs) ≡ rows bs
-  rows_are = (each_code (take bs.count bs.items) ok.each).1
-
-  pub rows_count : length (rows bs) ≡ bs.count
-  rows_count =
-      let s = ok.small in
-      let l = ok.long in
-      length-map (take bs.count bs.items) digits_of ∙ length-take-le bs.count bs.items (omega arith)
-
-  pub rows_at : (k : ℕ) → k < bs.count → get_or (rows bs) k [] ≡ (get_or bs.items k no_branch).digits
-  rows_at k h = get_or-map digits_of (take bs.count bs.items) k no_branch ∙ ap digits_of (get_or-take bs.count bs.items k no_branch h)
+pub all_joined : (ys : List (List ℕ)) (k : ℕ) → Six (take k ys) → (o q : List ℕ) → k ≡ length ys → q ≡ joined (take k ys) ++ drop (7 * k - 1) o → q ≡ joined ys ++ drop (length (joined ys)) o
+all_joined ys k six o q n e =
+    let whole : take k ys ≡ ys = take_all k ys (omega arith) in
+    e ∙ ap (λ (l : List (List ℕ)). joined l ++ drop (7 * k - 1) o) whole
+    ∙ ap (λ (m : ℕ). joined ys ++ drop m o) (sym (length_joined ys (subst Six whole six) ∙ ap (λ (m : ℕ). 7 * m - 1) (sym n)))

@@ -4,7 +4,6 @@ pub mod Groups
 pub mod Patterns
 pub mod Compared
 pub mod Chars
-pub mod Alternatives
 pub mod Fields
 pub mod Steps
 pub mod Firsts
@@ -13,4 +12,3 @@ pub mod Wider
 pub mod Answers
 pub mod Only
 pub mod Demands
-pub mod Single

@@ -1,38 +1,40 @@
 -- What the code of this crate holds and answers, in the words of the definitions: a name prepared, what the search finds, the next use, all branches.
 -- Assumes nothing.
-use Rattle.std.specs.Prelude.{ℕ, zero, suc, ◌+◌, ◌-◌, ◌*◌, ◌/◌, ◌^◌, ◌<◌, ◌≤◌, ◌≡◌, Bool, true, false, cond, List, [], ◌∷◌, map, length, take, drop}
-use Rattle.std.proofs.Math.Option.{Option, none, some}
+use Rattle.std.specs.Prelude.{ℕ, zero, suc, ◌+◌, ◌-◌, ◌*◌, ◌/◌, ◌^◌, ◌<◌, ◌≤◌, ◌≡◌, Bool, true, false, cond, List, [], ◌∷◌, map, length, take, drop, Option, Some, None as NoneOf, Result, Ok, Err}
+use Rattle.std.specs.Result.{result_ok}
+use Rattle.std.proofs.Math.Option as maybe
+use Rattle.laws.specs.Lists.{begins}
 use Rattle.chars.specs.Utf8.{char_of, is_text, bad_place}
 use Rattle.chars.specs.Letters.{white, tabled}
 use Rattle.chars.specs.declared.Char.TheVariants.{One}
 use Rattle.plate.specs.Plate.{Rule, Plate}
 use Rattle.plate.specs.Read.{rule_at, plate_in}
-use Rattle.plate.specs.Stands.{Here, packed, field_of}
-use Rattle.branches.specs.Branches.{Use, start}
+use Rattle.plate.specs.Stands.{packed, field_of}
+use Rattle.plate.specs.declared.FieldKind.{FieldKind}
+use Rattle.plate.specs.declared.FieldKind.TheVariants as kind
+use Rattle.plate.specs.declared.read.RuleAt.{RuleAt}
+use Rattle.branches.specs.Branches.{Branch, Use, start}
 use Rattle.branches.specs.Room.{outcome}
-use Rattle.branches.specs.Held.{BranchesOk, branches_of}
-use Rattle.branches.specs.declared.Stepped.{Stepped}
+use Rattle.branches.specs.declared.TooMany.{TooMany}
 use Rattle.coder.specs.Name.{Named, most_name, named}
 use Rattle.coder.specs.Name.Named.{Refused, Chars}
+use Rattle.coder.specs.Refused.{error_number, error_place, error_of}
 use Rattle.coder.specs.Walk.{letters, walk}
 use Rattle.coder.specs.Search.{Hit, hit_from}
 use Rattle.coder.specs.Search.Hit.{Taken, None}
-use Rattle.coder.specs.declared.Found.{Found}
-use Rattle.coder.specs.declared.Found.TheVariants.{At, Nothing}
 use Rattle.coder.specs.declared.NameFault.{NameFault}
 use Rattle.coder.specs.declared.NameFault.TheVariants as fault
-use Rattle.coder.specs.declared.Prepared.{Prepared}
-use Rattle.coder.specs.declared.Ahead.{Ahead}
-use Rattle.coder.specs.declared.NextUse.{NextUse}
+use Rattle.coder.specs.declared.walk.Ahead.{Ahead}
+use Rattle.coder.specs.declared.walk.Found.{Found}
+use Rattle.coder.specs.declared.walk.Found.TheVariants as found
+use Rattle.coder.specs.declared.walk.Walk.{Walk}
+use Rattle.coder.specs.declared.walk.Use as walked
 
 -- ---- a name, prepared
 
--- 01's number and the place for each fault; without one, the characters
-abbrev pub named_by : NameFault → List ℕ → Named
-named_by fault.None cs = Chars cs
-named_by fault.TooLong cs = Refused 1 0
-named_by (fault.NotUtf8 place) cs = Refused 2 place
-named_by (fault.NotAllowed place) cs = Refused 11 place
+-- 01's number and the place for each fault
+abbrev pub named_by : NameFault → Named
+named_by f = Refused (error_number (error_of f)) (error_place (error_of f))
 
 -- the fault of bytes that begin, at a place, with a character that is not allowed: "check [..] 2, 11"
 abbrev pub foreign_fault : ℕ → List ℕ → NameFault
@@ -46,9 +48,9 @@ pub record PlainAt (name : List ℕ) (at c : ℕ) : Type 0 where
   pub allowed : tabled c ≡ true
 
 -- The fault, or how many characters stand in front of what was lent for them.
-pub record PreparedIs (p : Plate) (name chars : List ℕ) (r : Prepared) : Type 0 where
-  pub is : named_by r.fault (take r.count chars) ≡ named p name
-  pub few : r.count ≤ most_name
+abbrev pub PreparedIs : Plate → List ℕ → List ℕ → Result ℕ NameFault → Type 0
+PreparedIs p name chars (Ok n) = (Chars (take n chars) ≡ named p name) × (n ≤ most_name)
+PreparedIs p name chars (Err f) = named_by f ≡ named p name
 
 -- ---- the characters ahead
 
@@ -77,28 +79,34 @@ unfoldable pub hit_at : Bool → List Rule → List ℕ → Hit
 hit_at known rs [] = None known
 hit_at known rs (c ∷ cs) = hit_from known rs c cs
 
--- The rule at the place is taken; n is the number of its characters.
-pub record FoundAt (s : List ℕ) (h : Hit) (place n : ℕ) : Type 0 where
-  pub taken : h ≡ Taken (rule_at s place)
-  pub here : Here s place
-  pub counted : n ≡ length (letters (rule_at s place))
+-- The pattern of the rule at a place begins some characters, and has so many; or it does not begin them.
+abbrev pub BegunIs : List ℕ → ℕ → List ℕ → Option ℕ → Type 0
+BegunIs s at cs (Some n) = (begins (letters (rule_at s at)) cs ≡ true) × (n ≡ length (letters (rule_at s at))) × (n ≤ 16)
+BegunIs s at cs NoneOf = begins (letters (rule_at s at)) cs ≡ false
+
+-- The rule is taken; n is the number of its characters.
+pub record FoundAt (h : Hit) (rule : RuleAt) (n : ℕ) : Type 0 where
+  pub taken : h ≡ Taken (rule_at rule.bytes.now rule.at)
+  pub counted : n ≡ length (letters (rule_at rule.bytes.now rule.at))
   pub some : 0 < n
   pub few : n ≤ 16
 
-abbrev pub FoundIs : List ℕ → Hit → Found → Type 0
-FoundIs s h (At place n) = FoundAt s h place n
-FoundIs s h (Nothing known) = h ≡ None known
+abbrev pub FoundIs : Hit → Found → Type 0
+FoundIs h (found.Rule rule n) = FoundAt h rule n
+FoundIs h found.NoMatch = h ≡ None true
+FoundIs h found.NoGroup = h ≡ None false
 
 -- ---- the walk
 
 -- the character before, where one with a group came before
-abbrev pub before_of : Bool → ℕ → Option ℕ
-before_of true before = some before
-before_of false before = none
+abbrev pub before_of : Option ℕ → maybe.Option ℕ
+before_of (Some before) = maybe.some before
+before_of NoneOf = maybe.none
 
--- the field's number: 0 start, 1 before vowel, 2 default
-abbrev pub which_field : Bool → Bool → ℕ
-which_field started vowel = cond started (cond vowel 1 2) 0
+-- "start, if no character with a group came before; else before vowel, if a, e, i, o or u follows the pattern; else default"
+abbrev pub field_kind : Option ℕ → Bool → FieldKind
+field_kind NoneOf vowel = kind.Start
+field_kind (Some before) vowel = cond vowel kind.Vowel kind.Other
 
 -- a use with the first of its alternatives, `most` of them
 abbrev pub cut_to : ℕ → Use → Use
@@ -107,25 +115,30 @@ cut_to most u = record { alternatives = take most u.alternatives; anyway = u.any
 abbrev pub cut_all : ℕ → List Use → List Use
 cut_all most us = map (cut_to most) us
 
--- the uses from a place of a name on, cut so
-unfoldable pub uses_from : List Rule → List ℕ → ℕ → Bool → ℕ → ℕ → List Use
-uses_from rs name most started before at = cut_all most (walk rs (before_of started before) 0 (drop at name))
+-- the uses that are left along a walk, cut so
+unfoldable pub uses_left : ℕ → List Rule → List ℕ → Option ℕ → ℕ → List Use
+uses_left most rs name before at = cut_all most (walk rs (before_of before) 0 (drop at name))
 
--- the use that is told, with the first `most` of its alternatives
-abbrev pub use_at : List ℕ → ℕ → NextUse → Use
-use_at s most r = record { alternatives = take most (field_of (rule_at s r.place) r.which); anyway = r.anyway }
+abbrev pub left : ℕ → Walk → List Use
+left most w = uses_left most (plate_in w.plate.bytes.now).rules w.name.now w.before w.at
 
--- The next use is the first of them, however they are cut, and the others are those from the place behind it on; or there is none.
-pub record NextIs (s name : List ℕ) (started : Bool) (before at : ℕ) (r : NextUse) : Type 0 where
-  pub here : r.found ≡ true → Here s r.place
-  pub field : r.which ≤ 2
-  pub is : (most : ℕ) → uses_from (plate_in s).rules name most started before at
-      ≡ cond r.found (use_at s most r ∷ uses_from (plate_in s).rules name most true r.before r.at) []
-  pub within : r.found ≡ true → at < length name
-  pub behind : r.found ≡ true → at < r.at
+-- a use of a rule, with the first `most` of its alternatives
+abbrev pub use_at : ℕ → walked.Use → Use
+use_at most u = record { alternatives = take most (field_of (rule_at u.rule.bytes.now u.rule.at) u.kind); anyway = u.anyway }
+
+-- The next use is the first of those that are left, however they are cut, and the walk has the others before it; or none is left.
+pub record Next (w v : Walk) (u : walked.Use) : Type 0 where
+  pub first : (most : ℕ) → left most w ≡ use_at most u ∷ left most v
+  pub within : w.at < length w.name.now
+  pub behind : w.at < v.at
+  pub same : v.name ≡ w.name
+
+abbrev pub NextIs : Walk → Walk → Option walked.Use → Type 0
+NextIs w v (Some u) = Next w v u
+NextIs w v NoneOf = (most : ℕ) → left most w ≡ []
 
 -- ---- the branches
 
 -- all branches along a name, or that at the start or after some step they were more than room
-abbrev pub RunIs : ℕ → List Use → Stepped → Type 0
-RunIs room us r = BranchesOk r.next × (outcome room us start ≡ cond r.over none (some (branches_of r.next)))
+abbrev pub RunIs : ℕ → List Use → Result (List Branch) TooMany → Type 0
+RunIs room us r = outcome room us start ≡ result_ok r

@@ -1,6 +1,7 @@
 pub mod Name
 pub mod Walk
 pub mod Search
+pub mod Refused
 pub mod Held
 pub mod Wider
 pub mod Answer

@@ -1,6 +1,12 @@
 // The coder: the characters of a name, the uses of rules along them, their branches, the codes that are written, and the answers. 01, "From name to codes".
 #![tactic(auto)]
 
+ghost use Rattle.std.specs.Prelude.{◌≡◌};
+ghost use Rattle.coder.specs.Refused.{error_number, error_place, error_of};
+ghost use Rattle.coder.specs.declared.CodeError.TheVariants.{RoomTooSmall};
+
+use branches::TooMany;
+
 mod name; // name.rt: from a name's bytes to the characters that are coded
 mod walk; // walk.rt: from the characters to the uses of rules
 mod run; // run.rt: from the uses to branches
@@ -10,55 +16,66 @@ pub mod answer; // answer.rt: encode and list
 // The most bytes of a name.
 const MOST_NAME: usize = 256;
 
-// The rule that the search takes, by its place and its pattern's length in characters; or nothing, and whether the character has a group.
-#[derive(Clone, Copy)]
-enum Found {
-    At(usize, usize),
-    Nothing(bool),
-}
-
 // Why a name is not coded, and where in it the fault begins.
-#[derive(Clone, Copy)]
+#[derive(Clone, Copy, Debug, PartialEq, Eq)]
 enum NameFault {
-    None,
     TooLong,
     NotUtf8(usize),
     NotAllowed(usize),
 }
 
-// How many characters are coded, of those that stand in what was lent for them; or the fault.
-#[derive(Clone, Copy)]
-struct Prepared {
-    count: usize,
-    fault: NameFault,
-}
-
-// The first characters ahead, up to six, as bytes in front of a word: those that are ASCII, up to the first that is not; zeros behind the end.
-#[derive(Clone, Copy)]
-struct Ahead {
-    word: u64,
-    plain: usize,
-}
-
-// The next use along a name: the rule's place and the number of the field taken (0 start, 1 before vowel, 2 default), whether its alternatives are appended
-// anyway, the place behind the pattern, and its first character, which is the character before for what follows. Or that there is none.
-#[derive(Clone, Copy)]
-struct NextUse {
-    place: usize,
-    which: usize,
-    anyway: bool,
-    at: usize,
-    before: u32,
-    found: bool,
-}
-
-// What list and encode answer: the number of codes written, or why there are none, and at which byte of the name.
-#[derive(Clone, Copy)]
-pub enum Coded {
-    Codes(usize),
+// Why list and encode give no codes, and at which byte of the name.
+#[derive(Clone, Copy, Debug, PartialEq, Eq)]
+pub enum CodeError {
     NotAPlate,
     NameTooLong,
     NotUtf8(usize),
     CharacterNotAllowed(usize),
     RoomTooSmall,
+}
+
+impl CodeError {
+    // 01's number of it.
+    pub fn number(self) -> u8
+        ensures { result ≡ error_number self }
+    {
+        match self {
+            CodeError::NotAPlate => 10,
+            CodeError::NameTooLong => 1,
+            CodeError::NotUtf8(_) => 2,
+            CodeError::CharacterNotAllowed(_) => 11,
+            CodeError::RoomTooSmall => 12,
+        }
+    }
+
+    // The byte of the name at which its fault begins; 0 where the fault is none of the name's.
+    // Stays: DmCoded of the C interface has the place as a number, 0 beside every other refusal, and this is what it is filled from.
+    pub fn place(self) -> usize
+        ensures { result ≡ error_place self }
+    {
+        match self {
+            CodeError::NotUtf8(place) | CodeError::CharacterNotAllowed(place) => place,
+            _ => 0,
+        }
+    }
+}
+
+impl From<NameFault> for CodeError {
+    ghost from_gives = { λ fault e. e ≡ error_of fault };
+
+    fn from(fault: NameFault) -> CodeError {
+        match fault {
+            NameFault::TooLong => CodeError::NameTooLong,
+            NameFault::NotUtf8(place) => CodeError::NotUtf8(place),
+            NameFault::NotAllowed(place) => CodeError::CharacterNotAllowed(place),
+        }
+    }
+}
+
+impl From<TooMany> for CodeError {
+    ghost from_gives = { λ _ e. e ≡ RoomTooSmall };
+
+    fn from(_many: TooMany) -> CodeError {
+        CodeError::RoomTooSmall
+    }
 }

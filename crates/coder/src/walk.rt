@@ -1,24 +1,52 @@
 // From the characters of a name to the uses of rules: at each character the rule taken, and its field.
-ghost use Rattle.std.specs.Prelude.{◌≡◌, true, false, ◌-◌, ◌*◌, ◌^◌, ◌<◌, ◌≤◌, length, drop, get_or};
-ghost use Rattle.plate.specs.Read.{plate_in, accepted};
-ghost use Rattle.plate.specs.Noted.{Noted};
+ghost use Rattle.std.specs.Prelude.{◌≡◌, false, ◌-◌, ◌*◌, ◌^◌, ◌<◌, ◌≤◌, length, drop, get_or};
+ghost use Rattle.plate.specs.Read.{plate_in};
 ghost use Rattle.coder.specs.Walk.{vowel_follows, forced};
-ghost use Rattle.coder.specs.Held.{AheadIs, hit_at, FoundIs, before_of, which_field, NextIs};
+ghost use Rattle.coder.specs.Held.{AheadIs, BegunIs, hit_at, FoundIs, before_of, field_kind, NextIs};
 
-use super::{Ahead, Found, NextUse};
-use chars::Next;
 use chars::letters::is_vowel;
-use plate::note::group_of;
-use plate::{Beginning, read};
+use plate::note::NotedPlate;
+use plate::read::RuleAt;
+use plate::{Beginning, FieldKind};
+
+// The first characters ahead, up to six, as bytes in front of a word: those that are ASCII, up to the first that is not; zeros behind the end.
+#[derive(Clone, Copy)]
+struct Ahead {
+    word: u64,
+    plain: usize,
+}
+
+// What the search finds: the rule that it takes, and its pattern's length in characters; or none, where the character has a group or has none.
+#[derive(Clone, Copy)]
+enum Found<'a> {
+    Rule(RuleAt<'a>, usize),
+    NoMatch,
+    NoGroup,
+}
+
+// A use of a rule along a name: the rule, which of its fields is taken, and whether its alternatives are appended anyway.
+#[derive(Clone, Copy)]
+pub(crate) struct Use<'a> {
+    pub rule: RuleAt<'a>,
+    pub kind: FieldKind,
+    pub anyway: bool,
+}
+
+// A walk along the characters of a name: where it has come to, and the character before, if one with a group came before.
+#[derive(Clone, Copy)]
+pub(crate) struct Walk<'a> {
+    pub plate: NotedPlate<'a>,
+    pub name: &'a [u32],
+    pub before: Option<u32>,
+    pub at: usize,
+}
 
 // One of some characters; 0 behind the last.
+// Stays: a word has zeros behind the end, so that what is not there is 0 and no none.
 fn char_ahead(rest: &[u32], i: usize) -> u32
     ensures { result ≡ get_or rest.now i 0 }
 {
-    if i < rest.len() {
-        return rest[i];
-    }
-    0
+    rest.get(i).copied().unwrap_or(0)
 }
 
 // So many bytes, shifted to the front of the word.
@@ -37,153 +65,119 @@ fn in_front(bytes: u64, plain: usize) -> Ahead
 fn ahead_of(rest: &[u32]) -> Ahead
     ensures { AheadIs rest.now result }
 {
-    let mut bytes: u64 = 0;
-    let mut i: usize = 0;
-    while i < 6 {
+    let mut bytes = 0;
+    for i in 0..6 {
         let c = char_ahead(rest, i);
         if 0x80 <= c {
             return in_front(bytes, i);
         }
-        bytes = bytes * 256 + c as u64;
-        i += 1;
+        bytes = bytes * 256 + u64::from(c);
     }
     in_front(bytes, 6)
 }
 
+// How many characters a rule's pattern has, if it begins some characters: one by one.
+// Stays: a character's width is the step, so that no range or iterator counts it.
+fn letters_begin(rule: &RuleAt, rest: &[u32]) -> Option<usize>
+    ensures { BegunIs rule.now.bytes.now rule.now.at rest.now result }
+{
+    let n = rule.pattern_length();
+    let mut k = 0;
+    let mut count = 0;
+    while k < n {
+        let letter = rule.pattern_char(k);
+        if *rest.get(count)? != letter.code {
+            return None;
+        }
+        k += letter.width;
+        count += 1;
+    }
+    Some(count)
+}
+
+// The same, where the characters ahead stand as a word: most patterns are decided by one comparison.
+fn begun_by(rule: &RuleAt, ahead: Ahead, rest: &[u32]) -> Option<usize>
+    requires { AheadIs rest.now ahead }
+    ensures { BegunIs rule.now.bytes.now rule.now.at rest.now result }
+{
+    match rule.pattern_begins(ahead.word, ahead.plain) {
+        Beginning::Is(n) => Some(n),
+        Beginning::Not => None,
+        Beginning::Unsaid => letters_begin(rule, rest),
+    }
+}
+
 // "Otherwise take the longest pattern that begins here; of equal patterns the first. The search stops at that rule." Only the rules of the character's
 // group are looked at, most of them by one comparison. Within a first character patterns stand longest first, so the first that fits is taken.
-fn search(plate: &[u8], places: &[u32], groups: &[u32], rest: &[u32]) -> Found
-    requires { (accepted plate.now ≡ true) × Noted plate.now places.now groups.now × (0 < length rest.now) }
-    ensures { FoundIs plate.now (hit_at false (plate_in plate.now).rules rest.now) result }
+fn search<'a>(plate: &NotedPlate<'a>, rest: &[u32]) -> Found<'a>
+    requires { 0 < length rest.now }
+    ensures { FoundIs (hit_at false (plate_in plate.now.bytes.now).rules rest.now) result }
 {
-    let group = group_of(plate, places, groups, rest[0]);
+    let group = plate.group_of(rest[0]);
+    if group.behind <= group.first {
+        return Found::NoGroup;
+    }
     let ahead = ahead_of(rest);
-    let mut i = group.first;
-    'rules: loop {
-        if group.behind <= i {
-            break 'rules Found::Nothing(group.first < group.behind);
-        }
-        let here = places[i] as usize;
-        i += 1;
-        match read::pattern_begins(plate, here, ahead.word, ahead.plain) {
-            Beginning::Is(n) => {
-                break 'rules Found::At(here, n);
-            }
-            Beginning::Not => {
-                continue 'rules;
-            }
-            Beginning::Unsaid => {
-                let n = read::pattern_length(plate, here);
-                let mut k: usize = 0;
-                let mut j: usize = 0;
-                'bytes: loop {
-                    if n <= k {
-                        break 'rules Found::At(here, j);
-                    }
-                    let p = read::pattern_char(plate, here, k);
-                    if rest.len() <= j {
-                        continue 'rules;
-                    }
-                    if p.code != rest[j] {
-                        continue 'rules;
-                    }
-                    k += p.width;
-                    j += 1;
-                }
-            }
+    for i in group.first..group.behind {
+        let rule = plate.rule(i);
+        if let Some(n) = begun_by(&rule, ahead, rest) {
+            return Found::Rule(rule, n);
         }
     }
+    Found::NoMatch
 }
 
 // "a, e, i, o or u follows": at a place of the name, or nothing does.
 fn vowel_at(name: &[u32], at: usize) -> bool
     ensures { result ≡ vowel_follows (drop at name.now) }
 {
-    if at < name.len() {
-        return is_vowel(Next::Is(name[at]));
-    }
-    is_vowel(Next::None)
+    is_vowel(name.get(at).copied())
 }
 
 // "Field: start, if no character with a group came before; else before vowel, if a, e, i, o or u follows the pattern; else default."
-fn which_field(started: bool, vowel: bool) -> usize
-    ensures { (result ≡ which_field started vowel) × (result ≤ 2) }
+fn field_kind(before: Option<u32>, vowel: bool) -> FieldKind
+    ensures { result ≡ field_kind before vowel }
 {
-    if !started {
-        return 0;
+    match before {
+        None => FieldKind::Start,
+        Some(_) if vowel => FieldKind::Vowel,
+        Some(_) => FieldKind::Other,
     }
-    if vowel { 1 } else { 2 }
 }
 
 // "between the group characters `m` then `n`, or `n` then `m`"
-fn is_forced(started: bool, before: u32, c: u32) -> bool
-    ensures { result ≡ forced (before_of started before) c }
+fn is_forced(before: Option<u32>, c: u32) -> bool
+    ensures { result ≡ forced (before_of before) c }
 {
-    if !started {
-        return false;
-    }
-    if before == 0x6D {
-        return c == 0x6E;
-    }
-    if before == 0x6E {
-        return c == 0x6D;
-    }
-    false
-}
-
-// No use.
-fn no_use(at: usize) -> NextUse
-    ensures { result ≡ record { place = 0; which = 0; anyway = false; at = at; before = 0; found = false } }
-{
-    NextUse {
-        place: 0,
-        which: 0,
-        anyway: false,
-        at,
-        before: 0,
-        found: false,
+    match before {
+        Some(0x6D) => c == 0x6E,
+        Some(0x6E) => c == 0x6D,
+        _ => false,
     }
 }
 
-// The next use along a name, from a place on: "No group: go on, nothing changes. [..] If the group has no match, one character passes."
-pub(crate) fn next_use(
-    plate: &[u8],
-    places: &[u32],
-    groups: &[u32],
-    name: &[u32],
-    begun: bool,
-    last: u32,
-    from: usize,
-) -> NextUse
-    requires { (accepted plate.now ≡ true) × Noted plate.now places.now groups.now }
-    ensures { NextIs plate.now name.now begun last from result }
-{
-    let mut started = begun;
-    let mut before = last;
-    let mut at = from;
-    while at < name.len() {
-        let c = name[at];
-        match search(plate, places, groups, &name[at..]) {
-            Found::Nothing(known) => {
-                at += 1;
-                if known {
-                    started = true;
-                    before = c;
+impl<'a> Walk<'a> {
+    // The next use along the name: "No group: go on, nothing changes. [..] If the group has no match, one character passes."
+    pub(crate) fn next(&mut self) -> Option<Use<'a>>
+        ensures { NextIs self.old self.new result }
+    {
+        while self.at < self.name.len() {
+            let c = self.name[self.at];
+            match search(&self.plate, &self.name[self.at..]) {
+                Found::NoGroup => self.at += 1,
+                Found::NoMatch => {
+                    self.at += 1;
+                    self.before = Some(c);
+                }
+                Found::Rule(rule, n) => {
+                    self.at += n;
+                    let kind = field_kind(self.before, vowel_at(self.name, self.at));
+                    let anyway = is_forced(self.before, c);
+                    self.before = Some(c);
+                    return Some(Use { rule, kind, anyway });
                 }
             }
-            Found::At(place, n) => {
-                let behind = at + n;
-                let which = which_field(started, vowel_at(name, behind));
-                return NextUse {
-                    place,
-                    which,
-                    anyway: is_forced(started, before, c),
-                    at: behind,
-                    before: c,
-                    found: true,
-                };
-            }
         }
+        None
     }
-    no_use(at)
 }

@@ -3,13 +3,17 @@
 
 mod help; // help.rt: the page
 
-use files::read::{fill_gaps, input};
-use front::options::{NOTHING, Scan, all, tell};
-use front::out::{ANSWERED, DESK, Pen, answers, flush, put};
-use front::rooms::{chunk_room, out_room, part, plate_room};
-use names::Way;
+use files::path::FilePath;
+use files::read::{Source, fill_gaps};
+use front::host::{Host, Program};
+use front::options::{Scan, not_taken};
+use front::out::Out;
+use front::rooms::{FILE_ROOM, OUT_ROOM};
+use front::status::Status;
+use help::PAGE;
+use names::answer::{Answering, Way};
 use names::given::{is_input, load};
-use names::lines::{Input, answer_all};
+use names::lines::Lines;
 use std::io::IsTerminal;
 
 // A person sits at the desk: what is typed and what is answered are on a terminal.
@@ -17,81 +21,39 @@ fn is_person(rt: &HostRuntime) -> bool {
     rt.stdin().is_terminal() && rt.stdout().is_terminal()
 }
 
-fn greet(out: &mut [u8], pen: Pen, prompt: bool) -> Pen {
-    if prompt {
-        return put(
-            out,
-            pen,
-            b"Type a name and press Enter; Ctrl-D in an empty line ends.\n",
-        );
+fn serve(host: Host, plate: &[u8], is_spent: bool) -> Status {
+    let is_asked = is_person(&host.rt);
+    let mut room = [0; OUT_ROOM];
+    let mut out = Out::answers(host, &mut room);
+    if is_asked {
+        out.put(b"Type a name and press Enter; Ctrl-D in an empty line ends.\n");
     }
-    pen
-}
-
-// The end of the last prompt's line.
-fn part_from(out: &mut [u8], pen: Pen, prompt: bool) -> Pen {
-    if prompt {
-        return put(out, pen, b"\n");
-    }
-    pen
-}
-
-fn serve(rt: &HostRuntime, plate: &[u8], is_spent: bool) -> i32 {
-    let prompt = is_person(rt);
-    let mut out = out_room();
-    let pen = greet(&mut out, answers(rt, DESK), prompt);
-    let source = input(rt, is_spent);
-    let from = Input {
-        source: &source,
-        prompt: prompt,
+    let mut chunk = [0; OUT_ROOM];
+    let source = Source::input(&host.rt, is_spent);
+    let mut lines = Lines::new(FilePath::new(host, b"-"), source, &mut chunk);
+    let answering = Answering {
+        plate,
+        way: Way::Desk,
     };
-    let way = Way {
-        all: true,
-        named: true,
-        shelf: true,
-    };
-    let mut chunk = chunk_room();
-    let pen = answer_all(&mut out, pen, plate, &mut chunk, from, b"-", way);
-    let pen = part_from(&mut out, pen, prompt);
-    let pen = flush(&out, pen);
-    pen.status
-}
-
-fn serve_by(rt: &HostRuntime, s: Scan) -> i32 {
-    let mut plate = plate_room();
-    let given = load(rt, DESK, s.plate, &mut plate);
-    if given.status != ANSWERED {
-        return given.status;
+    answering.answer_all(&mut out, &mut lines, is_asked);
+    // The end of the last prompt's line.
+    if is_asked {
+        out.put(b"\n");
     }
-    let n = given.count;
-    serve(rt, part(&plate, 0, n), is_input(rt, s.plate))
+    out.finish()
 }
 
-fn misplaced(rt: &HostRuntime, i: usize) -> i32 {
-    tell(rt, DESK, NOTHING, i, b"; desk --help tells more\n")
+fn serve_by(host: Host, scan: &Scan) -> Result<Status, Status> {
+    not_taken(host, scan.operands[0])?;
+    not_taken(host, scan.names)?;
+    not_taken(host, scan.flat)?;
+    let mut room = [0; FILE_ROOM];
+    let plate = load(host, scan.plate, &mut room)?;
+    Ok(serve(host, plate, is_input(host, scan.plate)))
 }
 
-// The status of the process.
-pub fn run(rt: &HostRuntime) -> i32 {
+// How the process ends.
+pub fn run(rt: &HostRuntime) -> Status {
     fill_gaps(rt);
-    let s = all(rt);
-    if s.fault != NOTHING {
-        return tell(rt, DESK, s.fault, s.at, b"; desk --help tells more\n");
-    }
-    if s.help {
-        return help::page(rt);
-    }
-    if s.version {
-        return help::version(rt);
-    }
-    if s.first != 0 {
-        return tell(rt, DESK, NOTHING, s.first, b"; desk --help tells more\n");
-    }
-    if s.names != 0 {
-        return misplaced(rt, s.names);
-    }
-    if s.flat != 0 {
-        return misplaced(rt, s.flat);
-    }
-    serve_by(rt, s)
+    front::help::run(Host::new(rt, Program::Desk), PAGE, serve_by)
 }

@@ -1,10 +1,9 @@
-// The program desk, as it is installed. What its process ends with is the command's status, of which a process tells the lowest byte.
+// The program desk, as it is installed. What its process ends with is the command's status.
 #![tactic(auto)]
 
 use commands::desk_main;
 use std::process::ExitCode;
 
 fn main(rt: HostRuntime) -> ExitCode {
-    let status = desk_main(&rt);
-    ExitCode::from((status & 255) as u8)
+    ExitCode::from(desk_main(&rt))
 }

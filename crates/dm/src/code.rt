@@ -1,219 +1,128 @@
 // list and encode: the names among the arguments, in files and on standard input.
-use super::{misplaced, misused};
-use check::same;
-use files::read::{Source, input, open_behind};
-use files::tell::tell_path;
-use front::options::{NAMES, OPERAND, Scan, arg_count, next, none, value, why_not, word};
-use front::out::{ANSWERED, DM, FAULT, Pen, answers, flush, with_status};
-use front::rooms::part;
-use names::Way;
-use names::answer::answer;
+use files::path::FilePath;
+use files::read::Source;
+use front::arguments::Arguments;
+use front::host::Host;
+use front::options::{Kind, Scan, not_taken, value, word, word_front};
+use front::out::Out;
+use front::rooms::WORD_ROOM;
+use front::status::Status;
+use names::answer::{Answering, Codes, Way};
 use names::given::{is_input, load};
-use names::lines::{Input, answer_all};
-use std::rt::Env;
+use names::lines::Lines;
 
-fn code_input(
-    out: &mut [u8],
-    pen: Pen,
-    plate: &[u8],
+// Answers the names of a source, whose lines are read into the chunk.
+fn code_lines(
+    out: &mut Out<'_>,
+    answering: Answering<'_>,
+    path: FilePath<'_>,
+    source: Source,
     chunk: &mut [u8],
-    source: &Source,
-    path: &[u8],
-    way: Way,
-) -> Pen {
-    let from = Input {
-        source: source,
-        prompt: false,
-    };
-    answer_all(out, pen, plate, chunk, from, path, way)
+) {
+    let mut lines = Lines::new(path, source, chunk);
+    answering.answer_all(out, &mut lines, false);
 }
 
-fn code_path(
-    out: &mut [u8],
-    pen: Pen,
-    plate: &[u8],
-    chunk: &mut [u8],
-    path: &[u8],
-    way: Way,
+// How names are answered, and whether standard input is spent: an option was read from it to its end.
+#[derive(Clone, Copy)]
+struct Coding<'a> {
+    host: Host,
+    answering: Answering<'a>,
     is_spent: bool,
-) -> Pen {
-    match open_behind(&pen.rt, DM, path, is_spent) {
-        Some(source) => code_input(out, pen, plate, chunk, &source, path, way),
-        None => with_status(pen, FAULT),
-    }
 }
 
-// The names of the file that the option at a place names.
-fn code_file(
-    out: &mut [u8],
-    pen: Pen,
-    plate: &[u8],
-    chunk: &mut [u8],
-    i: usize,
-    way: Way,
-    is_spent: bool,
-) -> Pen {
-    let mut word = io::buffer();
-    let v = value(&pen.rt, i, &mut word);
-    if !v.is_whole {
-        return with_status(pen, tell_path(&pen.rt, DM, b"--names", why_not(v)));
+impl Coding<'_> {
+    fn code_file(&mut self, out: &mut Out<'_>, chunk: &mut [u8], i: usize) -> Result<(), Status> {
+        let mut room = [0; WORD_ROOM];
+        let path = FilePath::given(self.host, "--names", value(&self.host.rt, i, &mut room))?;
+        let source = path.open_behind(self.is_spent)?;
+        self.is_spent = self.is_spent || path.is_dash();
+        code_lines(out, self.answering, path, source, chunk);
+        Ok(())
     }
-    let start = v.start;
-    let end = v.end;
-    code_path(
-        out,
-        pen,
-        plate,
-        chunk,
-        part(&word, start, end),
-        way,
-        is_spent,
-    )
-}
 
-fn code_word(
-    out: &mut [u8],
-    pen: Pen,
-    plate: &[u8],
-    chunk: &mut [u8],
-    word: &[u8],
-    is_dash: bool,
-    way: Way,
-    is_spent: bool,
-) -> Pen {
-    if is_dash && same(word, b"-") {
-        let source = input(&pen.rt, is_spent);
-        return code_input(out, pen, plate, chunk, &source, b"-", way);
+    // The name that an argument is; `-` in front of `--` stands for standard input. Of one that is longer than its room the front is refused for the same reason
+    // as the whole.
+    fn code_word(&self, out: &mut Out<'_>, chunk: &mut [u8], i: usize, is_ended: bool) {
+        let mut room = [0; WORD_ROOM];
+        let name = word_front(&self.host.rt, i, &mut room);
+        if is_ended || !matches!(name, b"-") {
+            return self.answering.answer(out, name);
+        }
+        let path = FilePath::new(self.host, name);
+        let source = Source::input(&self.host.rt, self.is_spent);
+        code_lines(out, self.answering, path, source, chunk);
     }
-    answer(out, pen, plate, word, way)
-}
 
-// The name that an argument is; `-` in front of `--` stands for standard input.
-fn code_argument(
-    out: &mut [u8],
-    pen: Pen,
-    plate: &[u8],
-    chunk: &mut [u8],
-    i: usize,
-    is_dash: bool,
-    way: Way,
-    is_spent: bool,
-) -> Pen {
-    let mut name = io::buffer();
-    match pen.rt.arg(i, &mut name) {
-        Ok(n) => code_word(out, pen, plate, chunk, &name[..n], is_dash, way, is_spent),
-        // It is longer than the buffer, and its front is refused for the same reason as the whole.
-        Err(_) => answer(out, pen, plate, &name, way),
+    // What the argument just passed asks for, if it is a name or a file of names. The first operand is the command.
+    fn code_next(
+        &mut self,
+        out: &mut Out<'_>,
+        chunk: &mut [u8],
+        scan: &Scan,
+        i: usize,
+    ) -> Result<(), Status> {
+        match scan.kind {
+            Kind::Names => self.code_file(out, chunk, i)?,
+            Kind::Operand if scan.operands[0] != Some(i) => {
+                self.code_word(out, chunk, i, scan.end.is_some())
+            }
+            _ => {}
+        }
+        Ok(())
     }
-}
 
-// What the argument at a place asks for, if it is a name or a file of names. The first operand is the command.
-fn code_next(
-    out: &mut [u8],
-    pen: Pen,
-    plate: &[u8],
-    chunk: &mut [u8],
-    s: Scan,
-    i: usize,
-    way: Way,
-    is_spent: bool,
-) -> Pen {
-    if pen.status == FAULT {
-        return pen;
+    // Up to a fault.
+    fn code_arguments(&mut self, out: &mut Out<'_>, chunk: &mut [u8]) {
+        for (i, scan) in Arguments::of(self.host) {
+            if out.status() == Status::Fault {
+                break;
+            }
+            if let Err(status) = self.code_next(out, chunk, &scan, i) {
+                out.worsen(status);
+            }
+        }
     }
-    if s.kind == NAMES {
-        return code_file(out, pen, plate, chunk, i, way, is_spent);
-    }
-    if s.kind == OPERAND && i != s.first {
-        return code_argument(out, pen, plate, chunk, i, s.end == 0, way, is_spent);
-    }
-    pen
-}
-
-// Whether the option at a place is `--names -`, which reads standard input to its end and is done with it.
-fn is_names_dash(rt: &HostRuntime, s: Scan, i: usize) -> bool {
-    if s.kind != NAMES {
-        return false;
-    }
-    let mut word = io::buffer();
-    let v = value(rt, i, &mut word);
-    same(part(&word, v.start, v.end), b"-")
-}
-
-fn code_arguments(
-    out: &mut [u8],
-    pen: Pen,
-    plate: &[u8],
-    chunk: &mut [u8],
-    way: Way,
-    by_plate: bool,
-) -> Pen {
-    let mut s = none();
-    let mut said = pen;
-    let mut is_spent = by_plate;
-    let end = arg_count(&pen.rt);
-    if end <= 1 {
-        return said;
-    }
-    for i in 1..end {
-        s = next(&pen.rt, s, i);
-        said = code_next(out, said, plate, chunk, s, i, way, is_spent);
-        is_spent = is_spent || is_names_dash(&pen.rt, s, i);
-    }
-    said
-}
-
-fn code_by(
-    rt: &HostRuntime,
-    plate: &[u8],
-    text: &mut [u8],
-    out: &mut [u8],
-    way: Way,
-    by_plate: bool,
-) -> i32 {
-    let pen = code_arguments(out, answers(rt, DM), plate, text, way, by_plate);
-    let pen = flush(out, pen);
-    pen.status
 }
 
 // Whether the first name is `-`, in front of `--`, and so standard input.
-fn is_dash(rt: &HostRuntime, s: Scan) -> bool {
-    if s.end != 0 && s.end < s.second {
+fn is_dash(host: Host, scan: &Scan, i: usize) -> bool {
+    if scan.end.is_some_and(|end| end < i) {
         return false;
     }
-    let mut name = io::buffer();
-    let v = word(rt, s.second, &mut name);
-    same(part(&name, v.start, v.end), b"-")
+    let mut room = [0; WORD_ROOM];
+    word(&host.rt, i, &mut room).is_ok_and(|word| matches!(word, b"-"))
 }
 
 // One word alone gives its codes alone.
-fn is_one_word(rt: &HostRuntime, s: Scan) -> bool {
-    s.names == 0 && s.third == 0 && !is_dash(rt, s)
+fn is_one_word(host: Host, scan: &Scan) -> bool {
+    match scan.operands {
+        [_, Some(i), None, _] => scan.names.is_none() && !is_dash(host, scan, i),
+        _ => false,
+    }
 }
 
 pub(crate) fn run(
-    rt: &HostRuntime,
-    s: Scan,
-    all: bool,
+    host: Host,
+    scan: &Scan,
+    codes: Codes,
     plate: &mut [u8],
     text: &mut [u8],
     out: &mut [u8],
-) -> i32 {
-    if s.flat != 0 {
-        return misplaced(rt, s.flat);
+) -> Result<Status, Status> {
+    not_taken(host, scan.flat)?;
+    if scan.operands[1].is_none() && scan.names.is_none() {
+        return Err(host.misused("no name is given"));
     }
-    if s.second == 0 && s.names == 0 {
-        return misused(rt, b"no name is given");
-    }
-    let given = load(rt, DM, s.plate, plate);
-    if given.status != ANSWERED {
-        return given.status;
-    }
-    let way = Way {
-        all: all,
-        named: !is_one_word(rt, s),
-        shelf: false,
+    let plate = load(host, scan.plate, plate)?;
+    let named = !is_one_word(host, scan);
+    let way = Way::List { codes, named };
+    let mut coding = Coding {
+        host,
+        answering: Answering { plate, way },
+        is_spent: is_input(host, scan.plate),
     };
-    let n = given.count;
-    code_by(rt, part(plate, 0, n), text, out, way, is_input(rt, s.plate))
+    let mut out = Out::answers(host, out);
+    coding.code_arguments(&mut out, text);
+    Ok(out.finish())
 }

@@ -1,12 +1,5 @@
-// The page that helps, and the version. The script dm prints the page from this file, so that it needs no build: a line of the page is a line here.
-use front::out::{DM, Pen, answers, flush, put};
-use front::rooms::note_room;
-
-fn put_page(out: &mut [u8], pen: Pen) -> Pen {
-    put(
-        out,
-        pen,
-        b"dm: Daitch-Mokotoff codes of names
+// The page that helps. The script dm prints it from this file, so that it needs no build: a line of the page is a line here.
+pub(crate) const PAGE: &str = "dm: Daitch-Mokotoff codes of names
 
   dm list [--plate PLATE] NAME...       all codes of each name, as 944744|944745
   dm encode [--plate PLATE] NAME...     one code of each name, the first
@@ -30,24 +23,4 @@ it was. Status: 0 all answered, 1 some refused, 2 wrong use, or a file or
 output that cannot be read or written.
 
   dm build my-rules.txt my.plate && dm list --plate my.plate Moskowitz Peters
-",
-    )
-}
-
-fn put_version(out: &mut [u8], pen: Pen) -> Pen {
-    put(out, pen, b"dm (Zengilvar) 0.1.0\n")
-}
-
-pub(crate) fn page(rt: &HostRuntime) -> i32 {
-    let mut out = note_room();
-    let pen = put_page(&mut out, answers(rt, DM));
-    let pen = flush(&out, pen);
-    pen.status
-}
-
-pub(crate) fn version(rt: &HostRuntime) -> i32 {
-    let mut out = note_room();
-    let pen = put_version(&mut out, answers(rt, DM));
-    let pen = flush(&out, pen);
-    pen.status
-}
+";

@@ -6,86 +6,56 @@ mod help; // help.rt: the page
 mod code; // code.rt: list and encode
 mod make; // make.rt: build and check
 
-use check::same;
 use files::read::fill_gaps;
-use front::options::{NOTHING, Scan, all, tell, tell_words, word};
-use front::out::DM;
-use front::rooms::{out_room, part, plate_room, text_room};
+use front::help::page;
+use front::host::{Host, Program};
+use front::options::{Misuse, Scan, tell_word, word};
+use front::rooms::{FILE_ROOM, OUT_ROOM, WORD_ROOM};
+use front::status::Status;
+use help::PAGE;
+use names::answer::Codes;
 
-// What a fault of use ends with.
-pub(crate) fn misused(rt: &HostRuntime, words: &[u8]) -> i32 {
-    tell_words(rt, DM, words, b"; dm help tells more\n")
-}
-
-// An option that the command does not take.
-pub(crate) fn misplaced(rt: &HostRuntime, i: usize) -> i32 {
-    tell(rt, DM, NOTHING, i, b"; dm help tells more\n")
-}
-
+// How the command went, or the status of what was told instead. The rooms are for a plate, for a text or an index, and for what is said.
+// Stays: a struct of the three rooms gets no proof. By value, "a parameter that holds a `&mut [T]` which the caller gets back is passed on to a call" is not
+// covered; behind a `&mut`, two of its rooms cannot be lent at once.
 fn command(
-    rt: &HostRuntime,
+    host: Host,
+    scan: &Scan,
     word: &[u8],
-    s: Scan,
     plate: &mut [u8],
     text: &mut [u8],
     out: &mut [u8],
-) -> i32 {
-    if same(word, b"list") {
-        return code::run(rt, s, true, plate, text, out);
+) -> Result<Status, Status> {
+    match word {
+        b"list" => code::run(host, scan, Codes::All, plate, text, out),
+        b"encode" => code::run(host, scan, Codes::First, plate, text, out),
+        b"build" => make::build(host, scan, plate, text),
+        b"check" => make::check(host, scan, plate, text, out),
+        b"index" => Ok(index_command::run(host, scan, plate, text, out)),
+        b"help" => Ok(page(host, PAGE)),
+        _ => Err(tell_word(host, Misuse::NoCommand, word)),
     }
-    if same(word, b"encode") {
-        return code::run(rt, s, false, plate, text, out);
-    }
-    if same(word, b"build") {
-        return make::build(rt, s, plate, text);
-    }
-    if same(word, b"check") {
-        return make::check(rt, s, plate, text, out);
-    }
-    if same(word, b"index") {
-        return index_command::run(rt, s, plate, text, out);
-    }
-    if same(word, b"help") {
-        return help::page(rt);
-    }
-    front::options::tell_word(
-        rt,
-        DM,
-        front::options::NO_COMMAND,
-        word,
-        b"; dm help tells more\n",
-    )
 }
 
-fn with_rooms(rt: &HostRuntime, word: &[u8], s: Scan) -> i32 {
-    let mut plate = plate_room();
-    let mut text = text_room();
-    let mut out = out_room();
-    command(rt, word, s, &mut plate, &mut text, &mut out)
+// The command that the argument at a place names.
+fn command_at(host: Host, scan: &Scan, i: usize) -> Result<Status, Status> {
+    let mut room = [0; WORD_ROOM];
+    let mut plate = [0; FILE_ROOM];
+    let mut text = [0; FILE_ROOM];
+    let mut out = [0; OUT_ROOM];
+    let word = word(&host.rt, i, &mut room).unwrap_or_default();
+    command(host, scan, word, &mut plate, &mut text, &mut out)
 }
 
-fn with_command(rt: &HostRuntime, s: Scan) -> i32 {
-    let mut name = io::buffer();
-    let w = word(rt, s.first, &mut name);
-    let end = w.end;
-    with_rooms(rt, part(&name, 0, end), s)
+fn serve(host: Host, scan: &Scan) -> Result<Status, Status> {
+    match scan.operands[0] {
+        Some(i) => command_at(host, scan, i),
+        None => Err(host.misused("no command is given")),
+    }
 }
 
-// The status of the process.
-pub fn run(rt: &HostRuntime) -> i32 {
+// How the process ends.
+pub fn run(rt: &HostRuntime) -> Status {
     fill_gaps(rt);
-    let s = all(rt);
-    if s.fault != NOTHING {
-        return tell(rt, DM, s.fault, s.at, b"; dm help tells more\n");
-    }
-    if s.help {
-        return help::page(rt);
-    }
-    if s.version {
-        return help::version(rt);
-    }
-    if s.first == 0 {
-        return misused(rt, b"no command is given");
-    }
-    with_command(rt, s)
+    front::help::run(Host::new(rt, Program::Dm), PAGE, serve)
 }

@@ -4,7 +4,6 @@ use mathlib.Core.Path.{◌≡◌, refl, sym, ap, ap₂, ◌∙◌}
 use mathlib.Core.List.{List, [], ◌∷◌, ◌++◌}
 use native.Mathlib.Omega.{arith}
 use lib.ListN.{length, take, drop, get_or, set}
-use lib.Seq.{drop-set-lt}
 use Rattle.laws.specs.Arrays.{Each}
 use lib.Pow.{field, mod-mod-pow, shr-shr}
 use Rattle.entries.specs.Entries.{entry_bits, number_of, entries, entry_bytes}
@@ -65,9 +64,9 @@ module _ (l : List ℕ) (i : ℕ) (h : 4 * i + 4 ≤ length l) (f : (k : ℕ) �
       ∙ ap (λ (m : ℕ). m % 2) (shr-shr v (8 * (w / 8)) (w % 8))
       ∙ ap (λ (e : ℕ). v / 2 ^ e % 2) {x = 8 * (w / 8) + w % 8} {y = w} (omega arith)
 
--- Four bytes stored at a place are an entry stored.
+-- Four bytes in the place of four are an entry stored.
 pub entry_stored : (l : List ℕ) (i a b c d : ℕ) → 4 * i + 4 ≤ length l
-    → entries (set (set (set (set l (4 * i) a) (4 * i + 1) b) (4 * i + 2) c) (4 * i + 3) d) ≡ set (entries l) i (number_of a b c d)
+    → entries (take (4 * i) l ++ (a ∷ b ∷ c ∷ d ∷ drop (4 * i + 4 - 4 * i) (drop (4 * i) l))) ≡ set (entries l) i (number_of a b c d)
 entry_stored [] i a b c d h = absurd (omega arith)
 entry_stored (x ∷ []) i a b c d h = absurd (omega arith)
 entry_stored (x ∷ y ∷ []) i a b c d h = absurd (omega arith)
@@ -75,7 +74,7 @@ entry_stored (x ∷ y ∷ z ∷ []) i a b c d h = absurd (omega arith)
 entry_stored (x ∷ y ∷ z ∷ u ∷ l) zero a b c d h = refl
 entry_stored (x ∷ y ∷ z ∷ u ∷ l) (suc i) a b c d h =
     let all = x ∷ y ∷ z ∷ u ∷ l in
-    (λ j. entries (set (set (set (set all (four_on i j) a) (four i 1 j) b) (four i 2 j) c) (four i 3 j) d))
+    ap₂ (λ (m n : ℕ). entries (take m all ++ (a ∷ b ∷ c ∷ d ∷ drop n (drop m all)))) {u = 4 * suc i + 4 - 4 * suc i} {v = 4 * i + 4 - 4 * i} (four_on i) (omega arith)
     ∙ ap (λ (m : List ℕ). number_of x y z u ∷ m) (entry_stored l i a b c d (omega arith))
 
 pub value_bytes : (v : ℕ) → number_of (v / 16777216) (v / 65536 % 256) (v / 256 % 256) (v % 256) ≡ v
@@ -83,21 +82,6 @@ value_bytes v =
     let two : v / 65536 ≡ v / 256 / 256 = omega arith in
     let three : v / 16777216 ≡ v / 256 / 256 / 256 = omega arith in
     omega arith
-
-pub stored : (l : List ℕ) (i v : ℕ) → 4 * i + 4 ≤ length l
-    → entries (set (set (set (set l (4 * i) (v / 16777216)) (4 * i + 1) (v / 65536 % 256)) (4 * i + 2) (v / 256 % 256)) (4 * i + 3) (v % 256)) ≡ set (entries l) i v
-stored l i v h =
-    entry_stored l i (v / 16777216) (v / 65536 % 256) (v / 256 % 256) (v % 256) h ∙ ap (λ (x : ℕ). set (entries l) i x) (value_bytes v)
-
-pub stored_behind : (l : List ℕ) (i a b c d : ℕ)
-    → drop (4 * i + 4) (set (set (set (set l (4 * i) a) (4 * i + 1) b) (4 * i + 2) c) (4 * i + 3) d) ≡ drop (4 * i + 4) l
-stored_behind l i a b c d =
-    let n : ℕ = 4 * i + 4 in
-    let one : List ℕ = set l (4 * i) a in
-    let two : List ℕ = set one (4 * i + 1) b in
-    let three : List ℕ = set two (4 * i + 2) c in
-    drop-set-lt n three (4 * i + 3) d (omega arith) ∙ drop-set-lt n two (4 * i + 2) c (omega arith)
-    ∙ drop-set-lt n one (4 * i + 1) b (omega arith) ∙ drop-set-lt n l (4 * i) a (omega arith)
 
 -- ---- parts of a buffer
 

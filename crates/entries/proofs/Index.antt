@@ -1,17 +1,17 @@
--- When bytes are an index: the test of a loop that goes from entry to entry, and what the test tells. Assumes nothing.
-use Prim.Native.Nat.{ℕ, zero, suc, ◌+◌, ◌-◌, ◌/◌, ◌%◌, ◌≤◌, ◌<◌}
-use mathlib.Core.Path.{◌≡◌, refl, sym, ap, ap₂, subst, ◌∙◌}
+-- When bytes are an index: what the library's test of each entry and the next says, and what the test tells. Assumes nothing.
+use Prim.Native.Nat.{ℕ, zero, suc, ◌-◌, ◌/◌, ◌%◌, ◌≤◌, ◌<◌}
+use mathlib.Core.Path.{◌≡◌, refl, sym, ap, subst, ◌∙◌}
 use mathlib.Core.Bool.{Bool, true, false, ◌&&◌}
-use mathlib.Core.List.{List, [], ◌∷◌, ◌++◌}
+use mathlib.Core.List.{List, [], ◌∷◌, ◌++◌, map}
 use native.Mathlib.Numerals.{add-one}
 use native.Mathlib.Omega.{arith}
-use borrow.Author.Tests.{lt-ltb, le-ltb, le-leb, lt-leb, ltb-true, eq-eqb, ne_eqb, eqb-true}
-use lib.Dec.{eqb, ltb, leb}
-use lib.ListN.{length, take, drop, get_or, drop_of_length-le}
-use lib.Seq.{drop-cons, take-suc, take_all}
+use borrow.Author.Tests.{lt-ltb, le-leb, lt-leb, ltb-true, eq-eqb, eqb-true}
+use lib.Dec.{eqb, ltb}
+use lib.ListN.{length, take, get_or}
+use lib.Seq.{take-suc, take_all}
+use Rattle.std.specs.List.{IsAllAdjacentAnswer}
 use Rattle.laws.specs.Arrays.{Each}
 use Rattle.laws.specs.Lists.{every}
-use Rattle.laws.proofs.Parts.{by_lt}
 use Rattle.laws.proofs.Tests.{and_true, both_true, and_left_false, and_right_false}
 use Rattle.entries.specs.Entries.{entries, most_code, code_in, is_code, rises_strictly, is_index}
 use Rattle.laws.specs.Sort.{Sorted}
@@ -19,41 +19,32 @@ use Rattle.laws.proofs.Holds.{each_append, each_all}
 use Rattle.laws.proofs.Sorting.{sorted_before}
 use Rattle.entries.proofs.Bytes.{length_entries}
 
--- ---- strictly rising, as a loop tests it: each is not below the number behind the one before it
+-- ---- strictly rising, as the library asks each and the next
 
-abbrev pub rises_from : ℕ → List ℕ → Bool
-rises_from low [] = true
-rises_from low (x ∷ xs) = leb low x && rises_from (suc x) xs
+module _ {A : Type 0} (f : A → ℕ) where
+  abbrev below : A → A → Bool
+  below x y = ltb (f x) (f y)
 
-rises_cons : (low x : ℕ) (l : List ℕ) → low ≤ x → rises_from low (x ∷ l) ≡ rises_strictly (x ∷ l)
-rises_cons low x [] h = ap (λ (t : Bool). t && true) (le-leb low x h)
-rises_cons low x (y ∷ l) h =
-    ap (λ (t : Bool). t && rises_from (suc x) (y ∷ l)) (le-leb low x h)
-    ∙ by_lt x y
-    (λ lt. rises_cons (suc x) y l (omega arith) ∙ sym (ap (λ (t : Bool). t && rises_strictly (y ∷ l)) (lt-ltb x y lt)))
-    (λ le.
-    ap (λ (t : Bool). t && rises_from (suc y) l) (lt-leb (suc x) y (omega arith)) ∙ sym (ap (λ (t : Bool). t && rises_strictly (y ∷ l)) (le-ltb x y le)))
+  all_below : (l : List A) → ((k : ℕ) (d : A) → suc k < length l → true ≡ below (get_or l k d) (get_or l (suc k) d)) → rises_strictly (map f l) ≡ true
+  all_below [] h = refl
+  all_below (x ∷ []) h = refl
+  all_below (x ∷ y ∷ l) h = both_true (sym (h 0 x (omega arith))) (all_below (y ∷ l) (λ k d g. h (suc k) d (omega arith)))
 
-pub rises_all : (l : List ℕ) → rises_from 0 l ≡ rises_strictly l
-rises_all [] = refl
-rises_all (x ∷ l) = rises_cons 0 x l (omega arith)
+  one_not : (l : List A) (k : ℕ) → suc k < length l → ((d : A) → false ≡ below (get_or l k d) (get_or l (suc k) d)) → rises_strictly (map f l) ≡ false
+  one_not [] k h e = absurd (omega arith)
+  one_not (x ∷ []) k h e = absurd (omega arith)
+  one_not (x ∷ y ∷ l) zero h e = and_left_false (below x y) (rises_strictly (map f (y ∷ l))) (sym (e x))
+  one_not (x ∷ y ∷ l) (suc k) h e = and_right_false (below x y) (rises_strictly (map f (y ∷ l))) (one_not (y ∷ l) k (omega arith) e)
 
--- From a place on: one that is not below passes, one below decides, and so does the end.
-module _ (low i : ℕ) (l : List ℕ) where
-  pub rises_turn : (x : ℕ) → i < length l → x ≡ get_or l i 0 → low ≤ x → rises_from low (drop i l) ≡ rises_from (x + 1) (drop (i + 1) l)
-  rises_turn x h e p =
-      let y : ℕ = get_or l i 0 in
-      ap (rises_from low) (drop-cons l i 0 h)
-      ∙ ap (λ (t : Bool). t && rises_from (suc y) (drop (suc i) l)) (le-leb low y (omega arith))
-      ∙ ap₂ (λ (k m : ℕ). rises_from k (drop m l)) (ap suc (sym e) ∙ sym (add-one x)) (sym (add-one i))
+  pub rises_answer : (l : List A) (r : Bool) → IsAllAdjacentAnswer (λ x y t. t ≡ below x y) l r → r ≡ rises_strictly (map f l)
+  rises_answer l true h = sym (all_below l (λ k d g. subst (λ (i : ℕ). true ≡ below (get_or l k d) (get_or l i d)) (add-one k) (h k d (omega arith))))
+  rises_answer l false h = sym (one_not l h.0 (omega (arith, h.1)) (λ d. subst (λ (i : ℕ). false ≡ below (get_or l h.0 d) (get_or l i d)) (add-one h.0) (h.2 d)))
 
-  pub rises_stop : (x : ℕ) → i < length l → x ≡ get_or l i 0 → x < low → rises_from low (drop i l) ≡ false
-  rises_stop x h e p =
-      let y : ℕ = get_or l i 0 in
-      ap (rises_from low) (drop-cons l i 0 h) ∙ and_left_false (leb low y) (rises_from (suc y) (drop (suc i) l)) (lt-leb low y (omega arith))
-
-  pub rises_end : length l ≤ i → rises_from low (drop i l) ≡ true
-  rises_end h = ap (rises_from low) (drop_of_length-le l h)
+  -- What stands in a list, read.
+  pub get_read : (l : List A) (i : ℕ) (d : A) (v : ℕ) → i < length l → f (get_or l i d) ≡ get_or (map f l) i v
+  get_read [] i d v h = absurd (omega arith)
+  get_read (x ∷ l) zero d v h = refl
+  get_read (x ∷ l) (suc i) d v h = get_read l i d v (omega arith)
 
 -- ---- what the test tells: whole entries, strictly rising, each with a code
 
@@ -104,13 +95,6 @@ one_fails t [] k h e = absurd (omega arith)
 one_fails t (x ∷ l) zero h e = and_left_false (t x) (every t l) e
 one_fails t (x ∷ l) (suc k) h e = and_right_false (t x) (every t l) (one_fails t l k (omega arith) e)
 
-pub index_odd : (b : List ℕ) → (length b % 4 ≡ 0 → ⊥) → is_index b ≡ false
-index_odd b h = and_left_false (eqb (length b % 4) 0) (rises_strictly (entries b) && every is_code (entries b)) (ne_eqb (length b % 4) 0 h)
-
-pub index_none : (b : List ℕ) → length b ≡ 0 → is_index b ≡ true
-index_none [] h = refl
-index_none (x ∷ b) h = absurd (omega arith)
-
 module _ (b : List ℕ) (whole : length b % 4 ≡ 0) (some : length b ≡ 0 → ⊥) (x : ℕ) (e : x ≡ get_or (entries b) (length b / 4 - 1) 0) where
   abbrev l : List ℕ
   l = entries b
@@ -138,16 +122,3 @@ module _ (b : List ℕ) (whole : length b % 4 ≡ 0) (some : length b ≡ 0 → 
       go : (t : Bool) → rises_strictly l ≡ t → rises_strictly l ≡ rises_strictly l && every is_code l
       go true f = f ∙ sym (both_true f (fits (rises_true l f)))
       go false f = f ∙ sym (and_left_false (rises_strictly l) (every is_code l) f)
-
--- ---- a test of every entry, from here on
-
-module _ (t : ℕ → Bool) (i : ℕ) (l : List ℕ) where
-  pub every_turn : i < length l → t (get_or l i 0) ≡ true → every t (drop i l) ≡ every t (drop (i + 1) l)
-  every_turn h e =
-      ap (every t) (drop-cons l i 0 h) ∙ ap (λ (b : Bool). b && every t (drop (suc i) l)) e ∙ ap (λ (k : ℕ). every t (drop k l)) (sym (add-one i))
-
-  pub every_stop : i < length l → t (get_or l i 0) ≡ false → every t (drop i l) ≡ false
-  every_stop h e = ap (every t) (drop-cons l i 0 h) ∙ and_left_false (t (get_or l i 0)) (every t (drop (suc i) l)) e
-
-  pub every_end : length l ≤ i → every t (drop i l) ≡ true
-  every_end h = ap (every t) (drop_of_length-le l h)

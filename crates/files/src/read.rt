@@ -1,15 +1,16 @@
 // A file read whole, and the three files that a program is started with.
 ghost use Rattle.std.specs.Io.{ReadsAtMost};
 
+use super::path::FilePath;
 use super::system::{open_append, open_read};
-use super::tell::tell_path;
-use check::same;
+use front::status::Status;
 use std::fs::File;
-use std::io::{Error, Read, Result};
+use std::io;
+use std::io::{Error, Read};
 use std::os::fd::{AsRawFd, IntoRawFd};
 use std::rt::Stdin;
 
-// The system's numbers of a file that is not open, and of one that is not there.
+// Stays: these are the system's numbers, which std's ErrorKind has other words for: of a file that is not open, and of one that is not there.
 const EBADF: i32 = 9;
 
 const ENOENT: i32 = 2;
@@ -23,16 +24,44 @@ pub enum Source {
     Spent,
 }
 
-pub fn input(rt: &HostRuntime, is_spent: bool) -> Source {
-    if is_spent {
-        return Source::Spent;
+impl Source {
+    pub fn input(rt: &HostRuntime, is_spent: bool) -> Source {
+        if is_spent {
+            Source::Spent
+        } else {
+            Source::Standard(rt.stdin())
+        }
     }
-    Source::Standard(rt.stdin())
-}
 
-// Whether a path is one of the system's names of standard input.
-pub fn names_input(path: &[u8]) -> bool {
-    same(path, b"/dev/stdin") || same(path, b"/dev/fd/0") || same(path, b"/proc/self/fd/0")
+    // One read: no bytes at the end.
+    pub fn read_once(&self, into: &mut [u8]) -> io::Result<usize>
+        ensures { ReadsAtMost result into.new }
+    {
+        match self {
+            Source::Standard(input) => {
+                let mut input = *input;
+                input.read(into)
+            }
+            Source::Opened(file) => {
+                let mut file: &File = file;
+                file.read(into)
+            }
+            Source::Spent => Err(not_open()),
+        }
+    }
+
+    // Reads up to the end, or as far as there is room. A directory, for one, opens and cannot be read.
+    pub fn read<'b>(&self, path: FilePath<'_>, into: &'b mut [u8]) -> Result<&'b [u8], Status> {
+        let mut n: usize = 0;
+        while n < into.len() {
+            match self.read_once(&mut into[n..]) {
+                Ok(0) => break,
+                Ok(more) => n += more,
+                Err(error) => return Err(path.fault(error)),
+            }
+        }
+        Ok(&into[..n])
+    }
 }
 
 // What is told of standard input that is spent, by its number or by such a name.
@@ -40,105 +69,35 @@ pub fn not_open() -> Error {
     Error::from_raw_os_error(EBADF)
 }
 
-// Opens a file to read; tells why it cannot, and answers none. `-` is standard input.
-pub fn open(rt: &HostRuntime, who: u8, path: &[u8]) -> Option<Source> {
-    open_behind(rt, who, path, false)
-}
+impl FilePath<'_> {
+    // Opens a file to read, or tells why it cannot. `-` is standard input.
+    pub fn open(self) -> Result<Source, Status> {
+        self.open_behind(false)
+    }
 
-// The same where standard input may be spent.
-pub fn open_behind(rt: &HostRuntime, who: u8, path: &[u8], is_spent: bool) -> Option<Source> {
-    if same(path, b"-") {
-        return Some(input(rt, is_spent));
-    }
-    if is_spent && names_input(path) {
-        tell_path(rt, who, path, Error::from_raw_os_error(ENOENT));
-        return None;
-    }
-    match open_read(rt, path) {
-        Ok(file) => Some(Source::Opened(file)),
-        Err(error) => {
-            tell_path(rt, who, path, error);
-            None
+    // The same where standard input may be spent.
+    pub fn open_behind(self, is_spent: bool) -> Result<Source, Status> {
+        if self.is_dash() {
+            return Ok(Source::input(&self.host.rt, is_spent));
+        }
+        if is_spent && self.names_input() {
+            return Err(self.fault(Error::from_raw_os_error(ENOENT)));
+        }
+        match open_read(&self.host.rt, self.bytes) {
+            Ok(file) => Ok(Source::Opened(file)),
+            Err(error) => Err(self.fault(error)),
         }
     }
-}
 
-// How many bytes were read, and whether that went without a fault.
-#[derive(Clone, Copy)]
-pub struct Got {
-    pub count: usize,
-    pub is_read: bool,
-}
-
-fn whole(n: usize) -> Got {
-    Got {
-        count: n,
-        is_read: true,
-    }
-}
-
-// One read: no bytes at the end.
-pub fn read_once(from: &Source, into: &mut [u8]) -> Result<usize>
-    ensures { ReadsAtMost result into.new }
-{
-    match from {
-        Source::Standard(input) => {
-            let mut input = *input;
-            input.read(into)
-        }
-        Source::Opened(file) => {
-            let mut file: &File = file;
-            file.read(into)
-        }
-        Source::Spent => Err(not_open()),
-    }
-}
-
-// Reads up to the end, or as far as there is room. A directory, for one, opens and cannot be read. Each turn reads a byte or more, so there are no more
-// turns than there is room.
-pub fn read(rt: &HostRuntime, who: u8, path: &[u8], from: &Source, into: &mut [u8]) -> Got {
-    let mut n: usize = 0;
-    for _ in 0..into.len() {
-        if into.len() <= n {
-            return whole(n);
-        }
-        match read_once(from, &mut into[n..]) {
-            Ok(0) => return whole(n),
-            Ok(more) => n += more,
-            Err(error) => {
-                tell_path(rt, who, path, error);
-                return Got {
-                    count: n,
-                    is_read: false,
-                };
-            }
-        }
-    }
-    whole(n)
-}
-
-// Opens a file, reads it and closes it.
-pub fn read_path(rt: &HostRuntime, who: u8, path: &[u8], into: &mut [u8]) -> Got {
-    read_behind(rt, who, path, into, false)
-}
-
-// The same where standard input may be spent.
-pub fn read_behind(rt: &HostRuntime, who: u8, path: &[u8], into: &mut [u8], is_spent: bool) -> Got {
-    match open_behind(rt, who, path, is_spent) {
-        Some(from) => read(rt, who, path, &from, into),
-        None => Got {
-            count: 0,
-            is_read: false,
-        },
+    // Opens a file, reads it and closes it.
+    pub fn read<'b>(self, into: &'b mut [u8]) -> Result<&'b [u8], Status> {
+        self.open()?.read(self, into)
     }
 }
 
 // Whether the lowest number that is free was that of an output, which is filled then.
 fn fill_gap(rt: &HostRuntime) -> bool {
-    match open_read(rt, b"/dev/null") {
-        Ok(file) => keep_open(file, 2),
-        Err(_) => false,
-    }
+    open_read(rt, b"/dev/null").is_ok_and(|file| keep_open(file, 2))
 }
 
 // A file stays open where its number is so low; else it is closed.

@@ -5,56 +5,31 @@ use std::io::{Error, ErrorKind, Result};
 
 // A path as std takes it.
 pub(crate) fn text(path: &[u8]) -> Result<&str> {
-    match std::str::from_utf8(path) {
-        Ok(text) => Ok(text),
-        Err(_) => Err(Error::new(ErrorKind::InvalidInput, "the path is not UTF-8")),
-    }
+    str::from_utf8(path).map_err(|_| Error::new(ErrorKind::InvalidInput, "the path is not UTF-8"))
 }
 
 // Opens a file to read.
 pub fn open_read(rt: &HostRuntime, path: &[u8]) -> Result<File> {
-    match text(path) {
-        Ok(path) => File::open(rt, path),
-        Err(error) => Err(error),
-    }
+    File::open(rt, text(path)?)
 }
 
 // Opens a file that is there to write at its end.
 pub(crate) fn open_append(rt: &HostRuntime, path: &[u8]) -> Result<File> {
-    match text(path) {
-        Ok(path) => OpenOptions::new().append(true).open(rt, path),
-        Err(error) => Err(error),
-    }
+    OpenOptions::new().append(true).open(rt, text(path)?)
 }
 
 // Makes a file where nobody has one of this name.
 pub(crate) fn create(rt: &HostRuntime, path: &[u8]) -> Result<File> {
-    match text(path) {
-        Ok(path) => OpenOptions::new()
-            .write(true)
-            .create_new(true)
-            .open(rt, path),
-        Err(error) => Err(error),
-    }
-}
-
-fn rename_to(rt: &HostRuntime, from: &str, to: &[u8]) -> Result<()> {
-    match text(to) {
-        Ok(to) => fs::rename(rt, from, to),
-        Err(error) => Err(error),
-    }
+    OpenOptions::new()
+        .write(true)
+        .create_new(true)
+        .open(rt, text(path)?)
 }
 
 pub(crate) fn rename(rt: &HostRuntime, from: &[u8], to: &[u8]) -> Result<()> {
-    match text(from) {
-        Ok(from) => rename_to(rt, from, to),
-        Err(error) => Err(error),
-    }
+    fs::rename(rt, text(from)?, text(to)?)
 }
 
 pub(crate) fn unlink(rt: &HostRuntime, path: &[u8]) -> Result<()> {
-    match text(path) {
-        Ok(path) => fs::remove_file(rt, path),
-        Err(error) => Err(error),
-    }
+    fs::remove_file(rt, text(path)?)
 }

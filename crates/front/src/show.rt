@@ -1,10 +1,9 @@
-// Names, characters and numbers as people may see them: nothing that a terminal would take for an order, or that would not be seen.
-ghost use Rattle.std.specs.Prelude.{◌<◌, ◌≤◌, length};
+// Names and characters as people may see them: nothing that a terminal would take for an order, or that would not be seen.
+ghost use Rattle.std.specs.Prelude.{length};
+ghost use Rattle.std.specs.Iterator.{at_most};
 
-use super::out::{Pen, put};
-use super::rooms::{byte, part};
-use chars::Char;
-use chars::utf8::char_at;
+use std::fmt;
+use std::fmt::{Display, Formatter, Write};
 
 // A name may have 256 bytes; of a longer one the front is shown.
 const LONGEST: usize = 256;
@@ -12,168 +11,169 @@ const LONGEST: usize = 256;
 const FRONT: usize = 40;
 
 // No controls, no marks that turn the direction of writing or are not seen.
-pub(crate) fn is_shown(c: u32) -> bool {
+fn is_shown(c: char) -> bool {
+    !matches!(
+        c,
+        '\0'..='\x1F'
+        | '\x7F'..='\u{9F}'
+        | '\u{AD}'
+        | '\u{61C}'
+        | '\u{200B}'..='\u{200F}'
+        | '\u{2028}'..='\u{202E}'
+        | '\u{2060}'..='\u{206F}'
+        | '\u{FEFF}'
+        | '\u{FFF9}'..='\u{FFFB}'
+        | '\u{E0000}'..='\u{10FFFF}'
+    )
+}
+
+// What a text is made of: characters, and bytes that begin none.
+#[derive(Clone, Copy)]
+pub enum Piece {
+    Char(char),
+    Byte(u8),
+}
+
+impl Piece {
+    // How many bytes it has.
+    pub fn width(self) -> usize {
+        match self {
+            Piece::Char(c) => c.len_utf8(),
+            Piece::Byte(_) => 1,
+        }
+    }
+
+    // How many columns it takes on a terminal.
+    pub(crate) fn columns(self) -> usize {
+        match self {
+            Piece::Char(c) if is_shown(c) => shown_columns(c),
+            Piece::Char(c) => escape_columns(c),
+            Piece::Byte(_) => 4,
+        }
+    }
+}
+
+// The columns of an escape: \x1B, \u{202E}, \u{E0001}, \u{10FFFF}.
+fn escape_columns(c: char) -> usize {
     match c {
-        0..=0x1F
-        | 0x7F..=0x9F
-        | 0xAD
-        | 0x61C
-        | 0x200B..=0x200F
-        | 0x2028..=0x202E
-        | 0x2060..=0x206F
-        | 0xFEFF
-        | 0xFFF9..=0xFFFB
-        | 0xE0000..=0x10FFFF => false,
-        _ => true,
+        ..'\u{80}' => 4,
+        ..'\u{10000}' => 8,
+        ..'\u{100000}' => 9,
+        _ => 10,
     }
 }
 
-fn is_plain_byte(b: u8) -> bool {
-    match b {
-        0x20..=0x7E => true,
-        _ => false,
+// The columns of a character that is shown: none for a mark that stands above or below the one before, two for the wide ones of East Asia.
+fn shown_columns(c: char) -> usize {
+    match c {
+        '\u{300}'..='\u{36F}'
+        | '\u{483}'..='\u{489}'
+        | '\u{591}'..='\u{5BD}'
+        | '\u{64B}'..='\u{65F}'
+        | '\u{1AB0}'..='\u{1AFF}'
+        | '\u{1DC0}'..='\u{1DFF}'
+        | '\u{20D0}'..='\u{20FF}'
+        | '\u{FE00}'..='\u{FE0F}'
+        | '\u{FE20}'..='\u{FE2F}' => 0,
+        '\u{1100}'..='\u{115F}'
+        | '\u{2E80}'..='\u{303E}'
+        | '\u{3041}'..='\u{A4CF}'
+        | '\u{AC00}'..='\u{D7A3}'
+        | '\u{F900}'..='\u{FAFF}'
+        | '\u{FE30}'..='\u{FE6F}'
+        | '\u{FF00}'..='\u{FF60}'
+        | '\u{FFE0}'..='\u{FFE6}'
+        | '\u{1F300}'..='\u{1F64F}'
+        | '\u{1F900}'..='\u{1F9FF}'
+        | '\u{20000}'..='\u{3FFFD}' => 2,
+        _ => 1,
     }
 }
 
-fn is_plain(s: &[u8]) -> bool {
-    for i in 0..s.len() {
-        if !is_plain_byte(s[i]) {
-            return false;
+impl Display for Piece {
+    fn fmt<W: Write>(&self, f: &mut Formatter<W>) -> fmt::Result {
+        match *self {
+            Piece::Char(c) if is_shown(c) => f.write_char(c),
+            Piece::Char(c) if c.is_ascii() => write!(f, "\\x{:02X}", c as u32),
+            Piece::Char(c) => write!(f, "\\u{{{:04X}}}", c as u32),
+            Piece::Byte(b) => write!(f, "\\x{b:02X}"),
         }
     }
-    true
 }
 
-fn digit(n: u32) -> u8 {
-    let digits = b"0123456789ABCDEF";
-    digits[(n % 16) as usize]
+// The pieces of a text, in its order.
+#[derive(Drop)]
+pub struct Pieces<'a> {
+    rest: &'a [u8],
 }
 
-// Two hexadecimal digits.
-fn put_pair(out: &mut [u8], pen: Pen, n: u32) -> Pen {
-    let pair = [digit(n / 16), digit(n)];
-    put(out, pen, &pair)
-}
-
-// Four to six hexadecimal digits.
-fn put_code(out: &mut [u8], pen: Pen, c: u32) -> Pen {
-    if c < 0x10000 {
-        let pen = put_pair(out, pen, c / 256);
-        return put_pair(out, pen, c);
-    }
-    if c < 0x100000 {
-        let first = [digit(c / 65536)];
-        let pen = put(out, pen, &first);
-        let pen = put_pair(out, pen, c / 256);
-        return put_pair(out, pen, c);
-    }
-    let pen = put_pair(out, pen, c / 65536);
-    let pen = put_pair(out, pen, c / 256);
-    put_pair(out, pen, c)
-}
-
-fn wide(b: u8) -> u32 {
-    b as u32
-}
-
-// A byte by its number.
-pub fn put_byte(out: &mut [u8], pen: Pen, b: u8) -> Pen {
-    let pen = put(out, pen, b"\\x");
-    put_pair(out, pen, wide(b))
-}
-
-// A character by its number, as U+20AC.
-pub fn put_point(out: &mut [u8], pen: Pen, c: u32) -> Pen {
-    let pen = put(out, pen, b"U+");
-    put_code(out, pen, c)
-}
-
-fn put_hidden(out: &mut [u8], pen: Pen, c: u32) -> Pen {
-    if c < 0x80 {
-        let pen = put(out, pen, b"\\x");
-        return put_pair(out, pen, c);
-    }
-    let pen = put(out, pen, b"\\u{");
-    let pen = put_code(out, pen, c);
-    put(out, pen, b"}")
-}
-
-// The bytes of the character at a place, 0 where none begins there.
-fn width_at(s: &[u8], at: usize) -> usize {
-    match char_at(s, at) {
-        Char::One(_, w) => w,
-        _ => 0,
+impl<'a> Pieces<'a> {
+    pub fn of(text: &'a [u8]) -> Pieces<'a> {
+        Pieces { rest: text }
     }
 }
 
-// The place behind the character at a place, or behind the byte there that begins none.
-pub fn next_char(s: &[u8], at: usize) -> usize
-    requires { at < length s.now }
-    ensures { (at < result) × (result ≤ length s.now) }
-{
-    let w = width_at(s, at);
-    if w == 0 {
-        return at + 1;
-    }
-    if s.len() - at < w {
-        return at + 1;
-    }
-    at + w
+// The character that bytes begin with, which has four at most.
+fn first_char(bytes: &[u8]) -> Option<char> {
+    let front = bytes.get(..4).unwrap_or(bytes);
+    front.utf8_chunks().next()?.valid().chars().next()
 }
 
-// What stands at a place, a character or a byte that begins none.
-pub fn put_char(out: &mut [u8], pen: Pen, s: &[u8], at: usize) -> Pen {
-    match char_at(s, at) {
-        Char::One(c, w) => put_whole(out, pen, c, part(s, at, end_of(at, w))),
-        _ => put_byte(out, pen, byte(s, at)),
-    }
-}
+impl Iterator for Pieces<'_> {
+    type Item = Piece;
 
-fn put_whole(out: &mut [u8], pen: Pen, c: u32, bytes: &[u8]) -> Pen {
-    if is_shown(c) {
-        return put(out, pen, bytes);
-    }
-    put_hidden(out, pen, c)
-}
+    ghost remaining = { λ s. at_most (length s.rest.now) };
 
-// Never past what a number holds.
-fn end_of(at: usize, w: usize) -> usize {
-    std::num::wrapping_add_usize(at, w)
-}
-
-// The characters that begin in front of a place.
-fn put_chars(out: &mut [u8], pen: Pen, s: &[u8], end: usize) -> Pen {
-    let mut said = pen;
-    let mut at: usize = 0;
-    while at < s.len() {
-        if end <= at {
-            return said;
-        }
-        said = put_char(out, said, s, at);
-        at = next_char(s, at);
+    fn next(&mut self) -> Option<Piece> {
+        let (first, behind) = self.rest.split_first()?;
+        let Some(c) = first_char(self.rest) else {
+            self.rest = behind;
+            return Some(Piece::Byte(*first));
+        };
+        self.rest = self.rest.get(c.len_utf8()..).unwrap_or(behind);
+        Some(Piece::Char(c))
     }
-    said
 }
 
 // A text as people may see it.
-pub fn put_text(out: &mut [u8], pen: Pen, s: &[u8]) -> Pen {
-    if is_plain(s) {
-        return put(out, pen, s);
+#[derive(Clone, Copy)]
+pub struct Text<'a>(pub &'a [u8]);
+
+impl Display for Text<'_> {
+    fn fmt<W: Write>(&self, f: &mut Formatter<W>) -> fmt::Result {
+        if let Ok(text) = str::from_utf8(self.0) {
+            if text.chars().all(is_shown) {
+                return f.write_str(text);
+            }
+        }
+        for piece in Pieces::of(self.0) {
+            write!(f, "{piece}")?;
+        }
+        Ok(())
     }
-    put_chars(out, pen, s, s.len())
 }
 
-// A name, or the front of one that is too long to be one.
-pub fn put_name(out: &mut [u8], pen: Pen, name: &[u8]) -> Pen {
-    if name.len() <= LONGEST {
-        return put_text(out, pen, name);
+// A name, or the front of one that is too long to be one: the characters that begin in it.
+#[derive(Clone, Copy)]
+pub struct Name<'a>(pub &'a [u8]);
+
+fn front_of(name: &[u8]) -> &[u8] {
+    let mut end: usize = 0;
+    for piece in Pieces::of(name) {
+        if FRONT <= end {
+            break;
+        }
+        end = end.wrapping_add(piece.width());
     }
-    let pen = put_chars(out, pen, name, FRONT);
-    put(out, pen, b"...")
+    name.get(..end).unwrap_or(name)
 }
 
-pub fn put_number(out: &mut [u8], pen: Pen, n: u64) -> Pen {
-    let mut digits = [0u8; 20];
-    let k = io::decimal(n, &mut digits);
-    put(out, pen, &digits[..k])
+impl Display for Name<'_> {
+    fn fmt<W: Write>(&self, f: &mut Formatter<W>) -> fmt::Result {
+        let name = self.0;
+        if name.len() <= LONGEST {
+            return write!(f, "{}", Text(name));
+        }
+        write!(f, "{}...", Text(front_of(name)))
+    }
 }

@@ -1,68 +1,158 @@
 // Why a name or a rule text was refused: each number of the table has its words here, and nowhere else.
-use super::out::{Pen, put};
-use super::rooms::byte;
-use super::show::{put_byte, put_char, put_number, put_point};
-use chars::Char;
-use chars::utf8::char_at;
+use super::caret::Caret;
+use super::show::{Piece, Pieces};
+use std::fmt;
+use std::fmt::{Display, Formatter, Write};
 
-fn put_strange(out: &mut [u8], pen: Pen, name: &[u8], place: usize) -> Pen {
-    let Char::One(c, _) = char_at(name, place) else {
-        return put(out, pen, b"a character");
-    };
-    let pen = put(out, pen, b"the character ");
-    let pen = put_char(out, pen, name, place);
-    let pen = put(out, pen, b" (");
-    let pen = put_point(out, pen, c);
-    put(out, pen, b")")
+// Why a name was refused.
+#[derive(Clone, Copy, PartialEq, Eq)]
+pub enum NameRefusal {
+    Long,
+    Broken,
+    Plate,
+    Strange,
+    Branches,
+    Other(u64),
 }
 
-fn put_broken(out: &mut [u8], pen: Pen, name: &[u8], place: usize) -> Pen {
-    let pen = put(out, pen, b"the name is not UTF-8 from ");
-    let pen = put_byte(out, pen, byte(name, place));
-    put(out, pen, b" on")
-}
-
-// Why a name was refused; the place is the one that the call answered.
-pub fn name_words(out: &mut [u8], pen: Pen, number: u64, name: &[u8], place: usize) -> Pen {
-    match number {
-        1 => put(out, pen, b"the name has over 256 bytes"),
-        2 => put_broken(out, pen, name, place),
-        10 => put(out, pen, b"the plate is damaged or no plate"),
-        11 => {
-            let pen = put_strange(out, pen, name, place);
-            put(
-                out,
-                pen,
-                b" is neither white space nor below U+0180 nor U+0400 to U+045F",
-            )
+impl NameRefusal {
+    // By the number that a call answered; 0 is that of none.
+    pub fn of(number: u64) -> Option<NameRefusal> {
+        match number {
+            0 => None,
+            1 => Some(NameRefusal::Long),
+            2 => Some(NameRefusal::Broken),
+            10 => Some(NameRefusal::Plate),
+            11 => Some(NameRefusal::Strange),
+            12 => Some(NameRefusal::Branches),
+            n => Some(NameRefusal::Other(n)),
         }
-        12 => put(out, pen, b"the name has over 64 codes at some step"),
-        _ => put(out, pen, b"refused"),
+    }
+
+    pub fn number(self) -> u64 {
+        match self {
+            NameRefusal::Long => 1,
+            NameRefusal::Broken => 2,
+            NameRefusal::Plate => 10,
+            NameRefusal::Strange => 11,
+            NameRefusal::Branches => 12,
+            NameRefusal::Other(n) => n,
+        }
     }
 }
 
-// Why a rule text was refused.
-pub fn text_words(out: &mut [u8], pen: Pen, number: u64) -> Pen {
-    match number {
-        1 => put(out, pen, b"the rule text has over 65,536 bytes"),
-        2 => put(
-            out,
-            pen,
-            b"the rule text is not UTF-8, or holds a zero byte",
-        ),
-        3 => put(out, pen, b"no rule, folding, comment or empty line"),
-        4 => put(out, pen, b"an empty pattern"),
-        5 => put(out, pen, b"a pattern over 16 bytes"),
-        6 => put(out, pen, b"a field with over 8 alternatives"),
-        7 => put(out, pen, b"an alternative that is not 0 to 6 digits"),
-        8 => put(out, pen, b"over 1,500 rules, or over 128 folded characters"),
-        9 => put(out, pen, b"the buffer is shorter than the plate"),
-        _ => put(out, pen, b"refused"),
+// A name that was refused; the place is the one that the call answered. It is shown by the words.
+#[derive(Clone, Copy)]
+pub struct RefusedName<'a> {
+    pub refusal: NameRefusal,
+    pub name: &'a [u8],
+    pub place: usize,
+}
+
+impl<'a> RefusedName<'a> {
+    // The caret below the character that the name was refused for, where it was for one.
+    pub fn caret(self) -> Caret<'a> {
+        Caret {
+            name: self.name,
+            place: match self.refusal {
+                NameRefusal::Broken | NameRefusal::Strange => Some(self.place),
+                _ => None,
+            },
+        }
+    }
+
+    // What stands at the place.
+    fn piece(self) -> Option<Piece> {
+        Pieces::of(self.name.get(self.place..)?).next()
     }
 }
 
-// A number of the table and a colon.
-pub fn put_refusal(out: &mut [u8], pen: Pen, number: u64) -> Pen {
-    let pen = put_number(out, pen, number);
-    put(out, pen, b": ")
+impl Display for RefusedName<'_> {
+    fn fmt<W: Write>(&self, f: &mut Formatter<W>) -> fmt::Result {
+        match self.refusal {
+            NameRefusal::Long => f.write_str("the name has over 256 bytes"),
+            NameRefusal::Broken => {
+                let byte = Piece::Byte(self.name.get(self.place).copied().unwrap_or(0));
+                write!(f, "the name is not UTF-8 from {byte} on")
+            }
+            NameRefusal::Plate => f.write_str("the plate is damaged or no plate"),
+            NameRefusal::Strange => {
+                match self.piece() {
+                    Some(Piece::Char(c)) => {
+                        write!(f, "the character {} (U+{:04X})", Piece::Char(c), c as u32)?
+                    }
+                    _ => f.write_str("a character")?,
+                }
+                f.write_str(" is neither white space nor below U+0180 nor U+0400 to U+045F")
+            }
+            NameRefusal::Branches => f.write_str("the name has over 64 codes at some step"),
+            NameRefusal::Other(_) => f.write_str("refused"),
+        }
+    }
+}
+
+// Why a rule text was refused. It is shown by the words.
+#[derive(Clone, Copy, PartialEq, Eq)]
+pub enum TextRefusal {
+    Long,
+    Broken,
+    NoItem,
+    NoPattern,
+    LongPattern,
+    Alternatives,
+    Digits,
+    Rules,
+    Room,
+    Other(u64),
+}
+
+impl TextRefusal {
+    // By the number that a call answered; 0 is that of none.
+    pub fn of(number: u64) -> Option<TextRefusal> {
+        match number {
+            0 => None,
+            1 => Some(TextRefusal::Long),
+            2 => Some(TextRefusal::Broken),
+            3 => Some(TextRefusal::NoItem),
+            4 => Some(TextRefusal::NoPattern),
+            5 => Some(TextRefusal::LongPattern),
+            6 => Some(TextRefusal::Alternatives),
+            7 => Some(TextRefusal::Digits),
+            8 => Some(TextRefusal::Rules),
+            9 => Some(TextRefusal::Room),
+            n => Some(TextRefusal::Other(n)),
+        }
+    }
+
+    pub fn number(self) -> u64 {
+        match self {
+            TextRefusal::Long => 1,
+            TextRefusal::Broken => 2,
+            TextRefusal::NoItem => 3,
+            TextRefusal::NoPattern => 4,
+            TextRefusal::LongPattern => 5,
+            TextRefusal::Alternatives => 6,
+            TextRefusal::Digits => 7,
+            TextRefusal::Rules => 8,
+            TextRefusal::Room => 9,
+            TextRefusal::Other(n) => n,
+        }
+    }
+}
+
+impl Display for TextRefusal {
+    fn fmt<W: Write>(&self, f: &mut Formatter<W>) -> fmt::Result {
+        f.write_str(match self {
+            TextRefusal::Long => "the rule text has over 65,536 bytes",
+            TextRefusal::Broken => "the rule text is not UTF-8, or holds a zero byte",
+            TextRefusal::NoItem => "no rule, folding, comment or empty line",
+            TextRefusal::NoPattern => "an empty pattern",
+            TextRefusal::LongPattern => "a pattern over 16 bytes",
+            TextRefusal::Alternatives => "a field with over 8 alternatives",
+            TextRefusal::Digits => "an alternative that is not 0 to 6 digits",
+            TextRefusal::Rules => "over 1,500 rules, or over 128 folded characters",
+            TextRefusal::Room => "the buffer is shorter than the plate",
+            TextRefusal::Other(_) => "refused",
+        })
+    }
 }

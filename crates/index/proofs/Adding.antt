@@ -17,8 +17,9 @@ use Rattle.entries.specs.Entries.{entries, entry_bytes, most_records, record_in,
 use Rattle.entries.proofs.Bytes.{length_entries}
 use Rattle.entries.proofs.Index.{index_true}
 use Rattle.index.specs.Index.{Indexed, unmade, made, fits, good_index, add_answer, codes_from, code_number, codes_in, refusal_of, entry_of, entries_of}
-use Rattle.index.specs.Held.{ListedIs}
-use Rattle.index.specs.declared.Listed.{Listed}
+use Rattle.index.specs.Held.{count_in, refusal_in, place_in, ListedIs}
+use Rattle.std.specs.Prelude.{Result}
+use Rattle.coder.specs.declared.CodeError.{CodeError}
 use Rattle.index.proofs.Entries.{name_count, name_distinct, of_record}
 use Rattle.index.proofs.Finding.{listed_codes}
 use Rattle.index.proofs.Added.{length_sorted, rising_added}
@@ -128,8 +129,8 @@ module _ (plate name index : List ℕ) (used : ℕ) (report : List ℕ) (noted :
           rising_added olds (entries_of plate noted name) noted (index_true (take used index) good.ordered).1 (name_distinct plate a noted name) (below_all noted olds good.numbered)
           (of_record noted h (codes_in plate name))
 
-      module _ (line : List ℕ) (r : Listed) (l : ListedIs plate name line r) where
-        all_long : 4 * length all ≡ used + 4 * r.count
+      module _ (line : List ℕ) (r : Result ℕ CodeError) (l : ListedIs plate name line r) where
+        all_long : 4 * length all ≡ used + 4 * (count_in r)
         all_long =
             let n = ap length all_sorted ∙ length_sorted (olds ++ entries_of plate noted name) ∙ length-append olds (entries_of plate noted name) in
             let m = name_count plate noted name in
@@ -139,7 +140,7 @@ module _ (plate name index : List ℕ) (used : ℕ) (report : List ℕ) (noted :
             let c = l.counted in
             omega arith
 
-        pub no_room : length index - used < 4 * r.count → unmade 18 index report ≡ add_answer plate name index used report noted
+        pub no_room : length index - used < 4 * (count_in r) → unmade 18 index report ≡ add_answer plate name index used report noted
         no_room g =
             let n = all_long in
             let w = good.within in
@@ -147,8 +148,8 @@ module _ (plate name index : List ℕ) (used : ℕ) (report : List ℕ) (noted :
             (and_right_false (leb (length notes) most_records) (leb (4 * length all) (length index) && leb (length notes) (length report))
             (and_left_false (leb (4 * length all) (length index)) (leb (length notes) (length report)) (lt-leb (4 * length all) (length index) (omega arith))))
 
-        module _ (g : noted < length report) (room : 4 * r.count ≤ length index - used) where
-          pub room_for : used + 4 * r.count ≤ length index
+        module _ (g : noted < length report) (room : 4 * (count_in r) ≤ length index - used) where
+          pub room_for : used + 4 * (count_in r) ≤ length index
           room_for = let w = good.within in omega arith
 
           fit : fits all notes index report ≡ true
@@ -158,21 +159,21 @@ module _ (plate name index : List ℕ) (used : ℕ) (report : List ℕ) (noted :
               let w = room_for in
               both_true (le-leb (length notes) most_records (omega arith)) (both_true (le-leb (4 * length all) (length index) (omega arith)) (le-leb (length notes) (length report) (omega arith)))
 
-          noted_set : set report noted r.refused ≡ notes ++ drop (length notes) report
+          noted_set : set report noted (refusal_in r) ≡ notes ++ drop (length notes) report
           noted_set =
               let n : suc noted ≡ length notes = sym (notes_long good.reported ∙ omega arith) in
-              set_split report noted r.refused g
+              set_split report noted (refusal_in r) g
               ∙ ap₂ (λ (b k : ℕ). take noted report ++ (b ∷ drop k report)) l.refused n
               ∙ sym (append_assoc (take noted report) (refusal_of plate name ∷ []) (drop (length notes) report))
 
           pub all_added : (out : List ℕ)
-              → out ≡ entry_bytes (sorted (olds ++ map (entry_of noted) (map code_number (codes_from r.count line)))) ++ drop (used + 4 * r.count) index
-              → record { number = 0; index_length = used + 4 * r.count; report_length = noted + 1; index = out; report = set report noted r.refused }
+              → out ≡ entry_bytes (sorted (olds ++ map (entry_of noted) (map code_number (codes_from (count_in r) line)))) ++ drop (used + 4 * (count_in r)) index
+              → record { number = 0; index_length = used + 4 * (count_in r); report_length = noted + 1; index = out; report = set report noted (refusal_in r) }
               ≡ add_answer plate name index used report noted
           all_added out q =
               let same : out ≡ entry_bytes all ++ drop (4 * length all) index =
               q
-              ∙ ap (λ (cs : List ℕ). entry_bytes (sorted (olds ++ map (entry_of noted) cs)) ++ drop (used + 4 * r.count) index) (listed_codes plate name line r l)
+              ∙ ap (λ (cs : List ℕ). entry_bytes (sorted (olds ++ map (entry_of noted) cs)) ++ drop (used + 4 * (count_in r)) index) (listed_codes plate name line (count_in r) (refusal_in r) (place_in r) l)
               ∙ ap₂ (λ (es : List ℕ) (k : ℕ). entry_bytes es ++ drop k index) (sym all_sorted) (sym all_long) in
               (λ j. record { number = 0; index_length = sym all_long j; report_length = sym (notes_long good.reported) j; index = same j; report = noted_set j })
               ∙ by_tests true true e fit

@@ -25,7 +25,10 @@ use Rattle.ward.proofs.Digits.{codes_six}
 use Rattle.ward.proofs.Lines.{codes_long, by_answer, same_room, few_codes}
 use Rattle.ward.specs.Codes.{SixDigits}
 use Rattle.index.specs.Index.{full_list, codes_from}
-use Rattle.index.specs.Held.{ListedIs}
+use Rattle.std.specs.Prelude.{Result, Ok, Err}
+use Rattle.coder.specs.Outcome.{told}
+use Rattle.coder.specs.declared.CodeError.{CodeError}
+use Rattle.index.specs.Held.{Listed, ListedIs}
 
 -- ---- codes in a buffer
 
@@ -74,18 +77,20 @@ listed_codes us lent = go (over (room lent) us start)
 record Alike (a b : Coded) : Type 0 where
   pub number : a.number ≡ b.number
   pub count : a.count ≡ b.count
+  pub place : a.place ≡ b.place
   pub codes : standing a ≡ standing b
 
 any_lent : (plate name lent lent' : List ℕ) → length lent ≡ length lent' → Alike (list_answer plate name lent) (list_answer plate name lent')
 any_lent plate name lent lent' e =
-    by_answer plate name (λ (f : List ℕ → Coded). Alike (f lent) (f lent')) (λ number place. record { number = refl; count = refl; codes = refl })
+    by_answer plate name (λ (f : List ℕ → Coded). Alike (f lent) (f lent')) (λ number place. record { number = refl; count = refl; place = refl; codes = refl })
     (λ p read cs. go (uses p.rules cs))
   where
     by_room : (us : List Use) (t : Bool) → Alike (cond t (no_codes 12 lent) (listing (codes us) lent)) (cond t (no_codes 12 lent') (listing (codes us) lent'))
-    by_room us true = record { number = refl; count = refl; codes = refl }
+    by_room us true = record { number = refl; count = refl; place = refl; codes = refl }
     by_room us false = record {
       number = refl;
       count = refl;
+      place = refl;
       codes =
           codes_read (codes us) (codes_long us) (drop (length (joined (codes us))) lent)
           ∙ sym (codes_read (codes us) (codes_long us) (drop (length (joined (codes us))) lent'));
@@ -151,16 +156,22 @@ module _ (plate name : List ℕ) where
   full_apart = apart plate name (replicate list_bytes 0)
 
   -- What list answers into any 447 bytes.
-  pub is_listed : (lent : List ℕ) → accepted plate ≡ true → length lent ≡ list_bytes → (a : Coded) → a ≡ list_answer plate name lent → length a.buffer ≡ list_bytes
-      → ListedIs plate name a.buffer (record { count = a.count; refused = a.number })
+  listed_as : (lent : List ℕ) → accepted plate ≡ true → length lent ≡ list_bytes → (a : Coded) → a ≡ list_answer plate name lent → length a.buffer ≡ list_bytes
+      → Listed plate name a.buffer a.count a.number a.place
   unfolding full_list
-  is_listed lent h long a e as_long =
+  listed_as lent h long a e as_long =
       let same = subst (λ (x : Coded). Alike x (list_answer plate name (replicate list_bytes 0))) (sym e) (any_lent plate name lent (replicate list_bytes 0) (long ∙ sym zeros_long)) in
       record {
         refused = same.number;
+        placed = same.place;
         counted = same.count;
         codes = same.codes ∙ ap (λ (n : ℕ). codes_from n (list_answer plate name (replicate list_bytes 0)).buffer) (sym same.count);
         digits = subst (λ (x : Coded). Each SixDigits (standing x)) (sym e) (digits plate name lent h);
         few = subst (λ (x : Coded). x.count ≤ 64) (sym e) (few plate name lent long);
         long = as_long;
       }
+
+  pub is_listed : (lent : List ℕ) → accepted plate ≡ true → length lent ≡ list_bytes → (r : Result ℕ CodeError) (out : List ℕ) → told r out ≡ list_answer plate name lent
+      → length out ≡ list_bytes → ListedIs plate name out r
+  is_listed lent h long (Ok n) out e as_long = listed_as lent h long (told (Ok n) out) e as_long
+  is_listed lent h long (Err x) out e as_long = listed_as lent h long (told (Err x) out) e as_long

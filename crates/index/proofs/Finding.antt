@@ -23,15 +23,21 @@ use Rattle.ward.specs.Puts.{Puts}
 use Rattle.entries.specs.Entries.{entries, most_records, is_index}
 use Rattle.index.specs.Index.{full_list, codes_from, code_number, codes_in, refusal_of}
 use Rattle.index.specs.Find.{records_of, two_bytes, find_answer}
-use Rattle.index.specs.Held.{ListedIs, Marks, marked}
-use Rattle.index.specs.Outcome.{name_number}
-use Rattle.index.specs.declared.Listed.{Listed}
+use Rattle.index.specs.Held.{Listed, NameIs, Marks, marked}
+use Rattle.index.specs.Outcome.{told_found, name_number, is_named}
+use Rattle.std.specs.Prelude.{Result, Ok, Err}
+use Rattle.std.specs.Result.{IsErr, IsErrAnd}
+use Rattle.coder.specs.Refused.{error_number, error_place}
+use Rattle.coder.specs.declared.CodeError.{CodeError}
+use Rattle.coder.specs.declared.CodeError.TheVariants.{NotAPlate, NameTooLong, NotUtf8, CharacterNotAllowed, RoomTooSmall}
+use Rattle.index.specs.declared.FindError.{FindError}
+use Rattle.index.specs.declared.FindError.TheVariants.{Name}
 use Rattle.index.proofs.Found.{marked_records, length_two}
 
 -- The codes of a name listed are the name's.
-pub listed_codes : (plate name line : List ℕ) (r : Listed) → ListedIs plate name line r → map code_number (codes_from r.count line) ≡ codes_in plate name
-listed_codes plate name line r l =
-    ap (map code_number) (l.codes ∙ ap (λ (n : ℕ). codes_from n (full_list plate name).buffer) l.counted)
+pub listed_codes : (plate name line : List ℕ) (n refusal place : ℕ) → Listed plate name line n refusal place → map code_number (codes_from n line) ≡ codes_in plate name
+listed_codes plate name line n refusal place l =
+    ap (map code_number) (l.codes ∙ ap (λ (k : ℕ). codes_from k (full_list plate name).buffer) l.counted)
 
 -- ---- which numbers list has for a name
 
@@ -55,10 +61,19 @@ refusal_named plate name a =
     subst (λ (o : Option Plate). ((plated listed o name lent).number ≡ 0 → ⊥) → name_number (plated listed o name lent).number ≡ true) (sym read)
     (by_name p.rules (prepared p name) (fail_place allowed name) (bad_place name) lent (ltb most_name (length name)) (is_text name) (every allowed (chars_of name)))
 
-pub listed_named : (plate name line : List ℕ) (r : Listed) → accepted plate ≡ true → ListedIs plate name line r → (r.refused ≡ 0 → ⊥) → name_number r.refused ≡ true
-listed_named plate name line r a l h = subst (λ (n : ℕ). name_number n ≡ true) (sym l.refused) (refusal_named plate name a (λ z. h (l.refused ∙ z)))
+error_some : (e : CodeError) → error_number e ≡ 0 → ⊥
+error_some NotAPlate h = omega arith
+error_some NameTooLong h = omega arith
+error_some (NotUtf8 place) h = omega arith
+error_some (CharacterNotAllowed place) h = omega arith
+error_some RoomTooSmall h = omega arith
 
 -- ---- the answer
+
+-- A name's error is handed on as one of find's.
+pub handed_on : (r : Result ℕ FindError) (e : CodeError) → IsErr r → IsErrAnd r (λ x. x ≡ Name e) → r ≡ Err (Name e)
+handed_on (Ok n) e h g = elim g [ ]
+handed_on (Err x) e h g = ap Err g
 
 module _ (plate index name lent : List ℕ) where
   -- the records that share a code with the name
@@ -85,17 +100,23 @@ module _ (plate index name lent : List ℕ) where
     unfolding find_answer
     no_index i = ap₂ (λ (t u : Bool). judged t u named fit) (sym a) (sym i)
 
-    module _ (i : is_index index ≡ true) (line : List ℕ) (r : Listed) (l : ListedIs plate name line r) where
-      pub no_name : (r.refused ≡ 0 → ⊥) → unwritten r.refused lent ≡ find_answer plate index name lent
+    module _ (i : is_index index ≡ true) (line : List ℕ) where
+      -- The name's error is told.
+      pub no_name : (e : CodeError) → Listed plate name line 0 (error_number e) (error_place e)
+          → (told_found (Err (Name e)) lent ≡ find_answer plate index name lent) × (is_named (Err (Name e)) ≡ true) × NameIs plate name (Err (Name e))
       unfolding find_answer
-      no_name h =
-          ap (λ (n : ℕ). unwritten n lent) l.refused
-          ∙ ap (λ (t : Bool). judged true true t fit) (sym (ne_eqb (refusal_of plate name) 0 (λ z. h (l.refused ∙ z))))
-          ∙ ap₂ (λ (t u : Bool). judged t u named fit) (sym a) (sym i)
+      no_name e l =
+          let some : refusal_of plate name ≡ 0 → ⊥ = λ z. error_some e (l.refused ∙ z) in (
+            ap (λ (n : ℕ). unwritten n lent) l.refused
+                ∙ ap (λ (t : Bool). judged true true t fit) (sym (ne_eqb (refusal_of plate name) 0 some))
+                ∙ ap₂ (λ (t u : Bool). judged t u named fit) (sym a) (sym i),
+            ap name_number l.refused ∙ refusal_named plate name a some,
+            (l.refused, l.placed),
+          )
 
-      module _ (h : r.refused ≡ 0) (marks : List ℕ) (m : Marks (entries index) (map code_number (codes_from r.count line)) (replicate most_records 0) marks) where
+      module _ (count : ℕ) (l : Listed plate name line count 0 0) (marks : List Bool) (m : Marks (entries index) (map code_number (codes_from count line)) (replicate most_records false) marks) where
         is_found : marked 0 marks ≡ found
-        is_found = marked_records (entries index) (map code_number (codes_from r.count line)) marks m ∙ ap (λ (cs : List ℕ). records_of cs (entries index)) (listed_codes plate name line r l)
+        is_found = marked_records (entries index) (map code_number (codes_from count line)) marks m ∙ ap (λ (cs : List ℕ). records_of cs (entries index)) (listed_codes plate name line count 0 0 l)
 
         how_long : length (cat two_bytes found) ≡ 2 * length (marked 0 marks)
         how_long = length_two found ∙ ap (λ (rs : List ℕ). 2 * length rs) (sym is_found)
@@ -103,7 +124,7 @@ module _ (plate index name lent : List ℕ) where
         by_room : (t : Bool) → fit ≡ t → judged true true true t ≡ find_answer plate index name lent
         unfolding find_answer
         by_room t f =
-            ap (λ (u : Bool). judged true true u t) (sym (eq-eqb (refusal_of plate name) 0 (sym l.refused ∙ h)))
+            ap (λ (u : Bool). judged true true u t) (sym (eq-eqb (refusal_of plate name) 0 (sym l.refused)))
             ∙ ap₂ (λ (u v : Bool). judged u v named t) (sym a) (sym i)
             ∙ ap (λ (u : Bool). judged (accepted plate) (is_index index) named u) (sym f)
 

@@ -14,12 +14,18 @@ use Rattle.laws.specs.Lists.{some, keep}
 use Rattle.laws.proofs.Lists.{some_append}
 use Rattle.laws.proofs.Tests.{or_false, or_right}
 use Rattle.laws.specs.Sort.{Rising, position}
-use Rattle.entries.specs.Entries.{most_records, code_in, record_in}
+use Rattle.entries.specs.Entries.{entries, most_records, code_in, record_in, is_index}
+use Rattle.entries.proofs.Index.{index_true}
+use Rattle.laws.proofs.Rising.{strict_weak}
 use Rattle.laws.proofs.Holds.{each_all}
 use Rattle.laws.proofs.Sorting.{sorted_behind}
 use Rattle.index.specs.Index.{codes_from, code_number}
 use Rattle.index.specs.Find.{shares}
 use Rattle.index.specs.Held.{Marks}
+
+-- An index rises.
+pub index_rises : (index : List ℕ) → is_index index ≡ true → Rising (entries index)
+index_rises index h = strict_weak (entries index) (index_true index h).1
 
 -- record k is one of the codes' entries
 abbrev pub has : List ℕ → List ℕ → ℕ → Bool
@@ -74,21 +80,21 @@ has_codes cs ds es k = has_some (cs ++ ds) es k ∙ go es ∙ ap₂ ◌||◌ (sy
 -- ---- one entry more
 
 -- Entries that share no code mark nothing more.
-marks_more : (l m codes lent marks : List ℕ) → Each (λ (e : ℕ). shares codes e ≡ false) m → Marks l codes lent marks → Marks (l ++ m) codes lent marks
+marks_more : (l m codes : List ℕ) (lent marks : List Bool) → Each (λ (e : ℕ). shares codes e ≡ false) m → Marks l codes lent marks → Marks (l ++ m) codes lent marks
 marks_more l m codes lent marks n p = record {
   long = p.long;
   is =
       λ k h. p.is k h
-      ∙ ap (λ (t : Bool). cond t 1 (get_or lent k 0)) (sym (has_append codes l m k ∙ ap (λ (t : Bool). has codes l k || t) (has_none codes m n k) ∙ or_false (has codes l k)));
+      ∙ ap (λ (t : Bool). cond t true (get_or lent k false)) (sym (has_append codes l m k ∙ ap (λ (t : Bool). has codes l k || t) (has_none codes m n k) ∙ or_false (has codes l k)));
 }
 
-marks_none : (codes lent : List ℕ) → Marks [] codes lent lent
+marks_none : (codes : List ℕ) (lent : List Bool) → Marks [] codes lent lent
 marks_none codes lent = record { long = refl; is = λ k h. refl }
 
 -- One that does marks its record.
-marks_one : (l codes lent marks : List ℕ) (e : ℕ) → shares codes e ≡ true → record_in e < length lent → Marks l codes lent marks
-    → Marks (l ++ (e ∷ [])) codes lent (set marks (record_in e) 1)
-marks_one l codes lent marks e s small p = record { long = length-set marks (record_in e) 1 ∙ p.long; is = λ k h. go k h (eqb k (record_in e)) refl }
+marks_one : (l codes : List ℕ) (lent marks : List Bool) (e : ℕ) → shares codes e ≡ true → record_in e < length lent → Marks l codes lent marks
+    → Marks (l ++ (e ∷ [])) codes lent (set marks (record_in e) true)
+marks_one l codes lent marks e s small p = record { long = length-set marks (record_in e) true ∙ p.long; is = λ k h. go k h (eqb k (record_in e)) refl }
   where
     one : (k : ℕ) → has codes (l ++ (e ∷ [])) k ≡ has codes l k || eqb k (record_in e)
     one k =
@@ -97,15 +103,15 @@ marks_one l codes lent marks e s small p = record { long = length-set marks (rec
         ∙ ap (λ (t : Bool). has codes l k || t) (or_false (eqb k (record_in e)))
 
     go : (k : ℕ) → k < length lent → (t : Bool) → eqb k (record_in e) ≡ t
-        → get_or (set marks (record_in e) 1) k 0 ≡ cond (has codes (l ++ (e ∷ [])) k) 1 (get_or lent k 0)
+        → get_or (set marks (record_in e) true) k false ≡ cond (has codes (l ++ (e ∷ [])) k) true (get_or lent k false)
     go k h true q =
-        ap (λ (j : ℕ). get_or (set marks (record_in e) 1) j 0) (eqb-true k (record_in e) q)
-        ∙ get_or-set_same marks (record_in e) 1 0 (subst (λ (n : ℕ). record_in e < n) (sym p.long) small)
-        ∙ sym (ap (λ (t : Bool). cond t 1 (get_or lent k 0)) (one k ∙ or_right (has codes l k) (eqb k (record_in e)) q))
+        ap (λ (j : ℕ). get_or (set marks (record_in e) true) j false) (eqb-true k (record_in e) q)
+        ∙ get_or-set_same marks (record_in e) true false (subst (λ (n : ℕ). record_in e < n) (sym p.long) small)
+        ∙ sym (ap (λ (t : Bool). cond t true (get_or lent k false)) (one k ∙ or_right (has codes l k) (eqb k (record_in e)) q))
     go k h false q =
-        get_or-set_other marks (record_in e) k 1 0 (λ w. false≢true (sym q ∙ eq-eqb k (record_in e) w))
+        get_or-set_other marks (record_in e) k true false (λ w. false≢true (sym q ∙ eq-eqb k (record_in e) w))
         ∙ p.is k h
-        ∙ sym (ap (λ (t : Bool). cond t 1 (get_or lent k 0)) (one k ∙ ap (λ (t : Bool). has codes l k || t) q ∙ or_false (has codes l k)))
+        ∙ sym (ap (λ (t : Bool). cond t true (get_or lent k false)) (one k ∙ ap (λ (t : Bool). has codes l k || t) q ∙ or_false (has codes l k)))
 
 -- ---- what stands before a number's place, and from there on
 
@@ -135,7 +141,7 @@ from_place v i (x ∷ l) s g h = go (ltb x v) refl i g h (λ j. from_place v j l
 
 -- ---- the entries of a code in a list in rising order: from the code's place on, up to the first of another code
 
-module _ (code : ℕ) (es lent : List ℕ) (s : Rising es) where
+module _ (code : ℕ) (es : List ℕ) (lent : List Bool) (s : Rising es) where
   alone : (e : ℕ) → (code_in e ≡ code → ⊥) → shares (code ∷ []) e ≡ false
   alone e h = or_false (eqb (code_in e) code) ∙ ne_eqb (code_in e) code h
 
@@ -146,12 +152,12 @@ module _ (code : ℕ) (es lent : List ℕ) (s : Rising es) where
       (subst (λ (j : ℕ). Each (λ (x : ℕ). x < code * most_records) (take j es)) (sym e) (before_place (code * most_records) es)))
       (marks_none (code ∷ []) lent)
 
-  module _ (i : ℕ) (marks : List ℕ) (p : Marks (take i es) (code ∷ []) lent marks) where
+  module _ (i : ℕ) (marks : List Bool) (p : Marks (take i es) (code ∷ []) lent marks) where
     pub marks_turn : (x : ℕ) → x ≡ get_or es i 0 → i < length es → length lent ≡ most_records → code_in x ≡ code
-        → Marks (take (i + 1) es) (code ∷ []) lent (set marks (record_in x) 1)
+        → Marks (take (i + 1) es) (code ∷ []) lent (set marks (record_in x) true)
     marks_turn x e h n q =
         let more : take (i + 1) es ≡ take i es ++ (x ∷ []) = ap (λ (j : ℕ). take j es) (add-one i) ∙ take-suc es i 0 h ∙ ap (λ (y : ℕ). take i es ++ (y ∷ [])) (sym e) in
-        subst (λ (l : List ℕ). Marks l (code ∷ []) lent (set marks (record_in x) 1)) (sym more)
+        subst (λ (l : List ℕ). Marks l (code ∷ []) lent (set marks (record_in x) true)) (sym more)
         (marks_one (take i es) (code ∷ []) lent marks x (or_false (eqb (code_in x) code) ∙ eq-eqb (code_in x) code q) (omega arith) p)
 
     pub marks_end : length es ≤ i → Marks es (code ∷ []) lent marks
@@ -175,17 +181,17 @@ module _ (code : ℕ) (es lent : List ℕ) (s : Rising es) where
 
 -- ---- more codes
 
-pub marks_codes : (es cs ds lent marks marks' : List ℕ) → Marks es cs lent marks → Marks es ds marks marks' → Marks es (cs ++ ds) lent marks'
+pub marks_codes : (es cs ds : List ℕ) (lent marks marks' : List Bool) → Marks es cs lent marks → Marks es ds marks marks' → Marks es (cs ++ ds) lent marks'
 marks_codes es cs ds lent marks marks' p q = record {
   long = q.long ∙ p.long;
   is =
       λ k h. q.is k (subst (λ (n : ℕ). k < n) (sym p.long) h)
-      ∙ ap (λ (m : ℕ). cond (has ds es k) 1 m) (p.is k h)
-      ∙ twice (has cs es k) (has ds es k) (get_or lent k 0)
-      ∙ sym (ap (λ (t : Bool). cond t 1 (get_or lent k 0)) (has_codes cs ds es k));
+      ∙ ap (λ (m : Bool). cond (has ds es k) true m) (p.is k h)
+      ∙ twice (has cs es k) (has ds es k) (get_or lent k false)
+      ∙ sym (ap (λ (t : Bool). cond t true (get_or lent k false)) (has_codes cs ds es k));
 }
   where
-    twice : (a b : Bool) (m : ℕ) → cond b 1 (cond a 1 m) ≡ cond (a || b) 1 m
+    twice : (a b m : Bool) → cond b true (cond a true m) ≡ cond (a || b) true m
     twice true true m = refl
     twice true false m = refl
     twice false b m = refl
@@ -197,8 +203,8 @@ no_codes es k = has_none [] es (all es) k
     all [] = tt
     all (e ∷ l) = (refl, all l)
 
-pub marks_no_code : (es lent : List ℕ) → Marks es [] lent lent
-marks_no_code es lent = record { long = refl; is = λ k h. sym (ap (λ (t : Bool). cond t 1 (get_or lent k 0)) (no_codes es k)) }
+pub marks_no_code : (es : List ℕ) (lent : List Bool) → Marks es [] lent lent
+marks_no_code es lent = record { long = refl; is = λ k h. sym (ap (λ (t : Bool). cond t true (get_or lent k false)) (no_codes es k)) }
 
 -- ---- the codes of a line
 
@@ -212,7 +218,7 @@ codes_snoc (suc i) line =
     (drop-drop (7 * i) 7 line ∙ ap (λ (k : ℕ). drop k line) {x = 7 + 7 * i} {y = 7 * suc i} (omega arith))
 
 -- The marks of the next code are those of one code more.
-pub marks_next : (es line lent marks marks' : List ℕ) (i code : ℕ) → code ≡ code_number (take 6 (drop (7 * i) line))
+pub marks_next : (es line : List ℕ) (lent marks marks' : List Bool) (i code : ℕ) → code ≡ code_number (take 6 (drop (7 * i) line))
     → Marks es (map code_number (codes_from i line)) lent marks → Marks es (code ∷ []) marks marks'
     → Marks es (map code_number (codes_from (i + 1) line)) lent marks'
 marks_next es line lent marks marks' i code e p q =

@@ -1,11 +1,12 @@
 -- The number that digits write: read digit by digit from a line, at most 999,999 of six, and told apart by the digits. Assumes nothing.
 use Prim.Native.Nat.{ℕ, zero, suc, ◌+◌, ◌-◌, ◌*◌, ◌<◌, ◌≤◌}
-use mathlib.Core.Path.{◌≡◌, refl, sym, ap, ap₂, subst, ◌∙◌}
+use mathlib.Core.Path.{◌≡◌, refl, sym, ap, ap₂, ◌∙◌}
 use mathlib.Core.Bool.{true}
 use mathlib.Core.List.{List, [], ◌∷◌}
 use native.Mathlib.Omega.{arith}
-use lib.ListN.{length, take, drop, get_or, length-take, length-drop}
-use lib.Seq.{drop-cons, get_or-take, get_or-drop}
+use native.Mathlib.Numerals.{add-one}
+use lib.ListN.{length, take, drop, get_or, length-take, length-drop, drop_of_length-le}
+use lib.Seq.{drop-cons}
 use Rattle.laws.specs.Lists.{every}
 use Rattle.laws.proofs.Tests.{and_true, between_true}
 use Rattle.chars.specs.Digits.{digit}
@@ -28,31 +29,7 @@ module _ (l : List ℕ) (at : ℕ) (six : SixDigits (take 6 (drop at l))) where
   pub within : at + 6 ≤ length l
   within = let n = six.0 in let m = length-take 6 (drop at l) in let k = length-drop at l in omega arith
 
-  pub digit_at : (j m : ℕ) → m ≡ at + j → j < 6 → (48 ≤ get_or l m 0) × (get_or l m 0 ≤ 57)
-  digit_at j m e h =
-      let n = six.0 in
-      let inside : j < length (take 6 (drop at l)) = omega arith in
-      let here : get_or (take 6 (drop at l)) j 0 ≡ get_or l m 0 = get_or-take 6 (drop at l) j 0 h ∙ get_or-drop at l j 0 ∙ ap (λ (k : ℕ). get_or l k 0) (sym e) in
-      subst (λ (d : ℕ). (48 ≤ d) × (d ≤ 57)) here (digit_in (take 6 (drop at l)) j six.1 inside)
-
-  next : (j k n m : ℕ) → j + suc k ≡ 6 → m ≡ n * 10 + (get_or l (at + j) 0 - 48) → number_from n (take (suc k) (drop (at + j) l)) ≡ number_from m (take k (drop (at + (j + 1)) l))
-  next j k n m e f =
-      let w = within in
-      ap (λ (x : List ℕ). number_from n (take (suc k) x)) (drop-cons l (at + j) 0 (omega arith))
-      ∙ ap (λ (x : ℕ). number_from x (take k (drop (suc (at + j)) l))) (sym f)
-      ∙ ap (λ (y : ℕ). number_from m (take k (drop y l))) {x = suc (at + j)} {y = at + (j + 1)} (omega arith)
-
-  -- Six turns.
-  pub six_number : (a b c d e f : ℕ) → a ≡ 0 * 10 + (get_or l at 0 - 48) → b ≡ a * 10 + (get_or l (at + 1) 0 - 48) → c ≡ b * 10 + (get_or l (at + 2) 0 - 48)
-      → d ≡ c * 10 + (get_or l (at + 3) 0 - 48) → e ≡ d * 10 + (get_or l (at + 4) 0 - 48) → f ≡ e * 10 + (get_or l (at + 5) 0 - 48)
-      → f ≡ code_number (take 6 (drop at l))
-  six_number a b c d e f p q r s t u =
-      let here : at + 0 ≡ at = omega arith in
-      sym (ap (λ (n : ℕ). number_from 0 (take 6 (drop n l))) (sym here)
-      ∙ next 0 5 0 a (omega arith) (p ∙ ap (λ (n : ℕ). 0 * 10 + (get_or l n 0 - 48)) (sym here))
-      ∙ next 1 4 a b (omega arith) q ∙ next 2 3 b c (omega arith) r ∙ next 3 2 c d (omega arith) s ∙ next 4 1 d e (omega arith) t ∙ next 5 0 e f (omega arith) u)
-
--- ---- how large, and when equal
+-- ---- how large
 
 -- A digit more: ten times as many.
 bounded : (d n m : ℕ) → digit d ≡ true → n ≤ m → n * 10 + (d - 48) ≤ m * 10 + 9
@@ -74,6 +51,32 @@ small (a ∷ b ∷ c ∷ d ∷ e ∷ f ∷ []) six =
     let t = and_true (digit e) (every digit (f ∷ [])) s.1 in
     let u = and_true (digit f) true t.1 in
     bounded f _ 99999 u.0 (bounded e _ 9999 t.0 (bounded d _ 999 s.0 (bounded c _ 99 r.0 (bounded b _ 9 q.0 (bounded a 0 0 p.0 (omega arith))))))
+
+-- ---- digit by digit
+
+grows : (n : ℕ) (l : List ℕ) → n ≤ number_from n l
+grows n [] = omega arith
+grows n (x ∷ l) = omega (arith, grows (n * 10 + (x - 48)) l)
+
+-- The digits from place i on are left, and n was written before them: the next is a digit, and no number on the way is larger than the whole.
+pub record Turn (ds : List ℕ) (i n d : ℕ) : Type 0 where
+  pub is_digit : 48 ≤ d
+  pub few : n * 10 + (d - 48) ≤ most_code
+  pub next : number_from (n * 10 + (d - 48)) (drop (i + 1) ds) ≡ code_number ds
+
+pub turn : (ds : List ℕ) (i n : ℕ) → SixDigits ds → i < length ds → number_from n (drop i ds) ≡ code_number ds → Turn ds i n (get_or ds i 0)
+turn ds i n six h f =
+    let m = n * 10 + (get_or ds i 0 - 48) in
+    let next : number_from m (drop (i + 1) ds) ≡ code_number ds =
+    ap (λ (k : ℕ). number_from m (drop k ds)) (add-one i) ∙ sym (ap (number_from n) (drop-cons ds i 0 h)) ∙ f in
+    record { is_digit = (digit_in ds i six.1 h).0; few = omega (arith, grows m (drop (i + 1) ds), next, small ds six); next = next }
+
+pub written : (ds : List ℕ) (i n : ℕ) → SixDigits ds → length ds ≤ i → number_from n (drop i ds) ≡ code_number ds → (n ≡ code_number ds) × (n ≤ most_code)
+written ds i n six h f =
+    let e : n ≡ code_number ds = ap (number_from n) (sym (drop_of_length-le ds h)) ∙ f in
+    (e, omega (arith, e, small ds six))
+
+-- ---- told apart
 
 -- Digits of one length that write the same number, behind numbers, are the same behind the same.
 told_apart : (l l' : List ℕ) (n n' : ℕ) → every digit l ≡ true → every digit l' ≡ true → length l ≡ length l' → number_from n l ≡ number_from n' l' → (n ≡ n') × (l ≡ l')

@@ -1,389 +1,205 @@
 // The records that share a code with each name, a line each. The index is read anew for each name: its room is that of the names that are shown with them.
-ghost use Rattle.std.specs.Prelude.{◌≤◌};
-
-use super::kept::{read_index, refuse};
-use super::lines::{Lines, line_room, next_line, none};
-use files::read::{Source, open};
-use files::tell::tell_file;
-use front::options::{OPERAND, Scan, arg_count, next};
-use front::out::{ANSWERED, DM, FAULT, Pen, answers, flush, put, with_status};
-use front::rooms::{byte, part};
-use front::show::{put_name, put_number};
-use names::Way;
-use names::answer::answer;
-use names::lines::{name_start, without_cr};
-use std::num::wrapping_add_usize;
+use super::grow::LISTED;
+use super::kept::{no_path, read_index};
+use super::unfit::{NUMBER, Unfit};
+use super::{Asked, odd_place};
+use entries::MOST_RECORDS;
+use files::path::FilePath;
+use front::arguments::Arguments;
+use front::options::{Kind, value, word};
+use front::out::Out;
+use front::rooms::WORD_ROOM;
+use front::show::Name;
+use front::status::Status;
+use names::answer::Answering;
+use names::lines::Lines;
 use std::rt::Env;
 use zengilvar::code_index::dm_index_find;
 
-const UNFIT: u64 = 18;
-
-const RECORDS: usize = 4096;
-
 // All records, two bytes each.
-fn records_room() -> [u8; 8192] {
-    [0; 8192]
-}
+const RECORDS_ROOM: usize = 8192;
 
-// Where the first name stands among the arguments, whether there are several, and whether the names of the records are shown.
+// What names are looked up in, whether there are several, and the file of the names that are shown with the records.
 #[derive(Clone, Copy)]
-pub(crate) struct Asked {
-    pub first: usize,
+pub(crate) struct Search<'a> {
+    pub plate: &'a [u8],
+    pub index: FilePath<'a>,
     pub several: bool,
-    pub shown: bool,
+    pub names: Option<FilePath<'a>>,
 }
 
-fn wide(b: u8) -> u64
-    ensures { result ≤ 255 }
-{
-    b as u64
-}
-
-// The record whose two bytes begin at a place.
-fn record_at(found: &[u8], at: usize) -> u64 {
-    wide(byte(found, at)) * 256 + wide(byte(found, wrapping_add_usize(at, 1)))
-}
-
-// The name that was asked for, where there are several, and the record's number.
-fn put_front(out: &mut [u8], pen: Pen, name: &[u8], several: bool, record: u64) -> Pen {
-    if !several {
-        return put_number(out, pen, record);
-    }
-    let pen = put_name(out, pen, name);
-    let pen = put(out, pen, b"\t");
-    put_number(out, pen, record)
-}
-
-fn put_record(out: &mut [u8], pen: Pen, name: &[u8], several: bool, record: u64) -> Pen {
-    let pen = put_front(out, pen, name, several, record);
-    put(out, pen, b"\n")
-}
-
-fn put_records(out: &mut [u8], pen: Pen, found: &[u8], name: &[u8], several: bool) -> Pen {
-    let mut said = pen;
-    let n = found.len() / 2;
-    for i in 0..n {
-        said = put_record(
-            out,
-            said,
-            name,
-            several,
-            record_at(found, wrapping_add_usize(i, i)),
-        );
-    }
-    said
-}
-
-// The same with the record's own name, a line of a file; its first may begin behind a byte order mark.
-fn put_named(
-    out: &mut [u8],
-    pen: Pen,
-    name: &[u8],
-    several: bool,
-    record: u64,
-    line: &[u8],
-) -> Pen {
-    let pen = put_front(out, pen, name, several, record);
-    let pen = put(out, pen, b"\t");
-    let start = name_start(line, record == 0);
-    let end = without_cr(line);
-    let pen = put_name(out, pen, part(line, start, end));
-    put(out, pen, b"\n")
-}
-
-// What is said, how many bytes of the records are passed, and the lines of the file so far.
+// The records of a name that was asked for, of two bytes each.
 #[derive(Clone, Copy)]
-struct Course {
-    pen: Pen,
-    at: usize,
-    lines: Lines,
+struct Records<'a> {
+    name: Option<Name<'a>>,
+    found: &'a [[u8; 2]],
 }
 
-// One line more, which is the name of record k.
-fn take_line(
-    out: &mut [u8],
-    c: Course,
-    found: &[u8],
-    name: &[u8],
-    several: bool,
-    k: u64,
-    line: &[u8],
-) -> Course {
-    let at = c.at;
-    let pen = c.pen;
-    let lines = c.lines;
-    if record_at(found, at) != k {
-        return c;
-    }
-    Course {
-        pen: put_named(out, pen, name, several, k, line),
-        at: wrapping_add_usize(at, 2),
-        lines: lines,
-    }
-}
-
-fn with_lines(c: Course, l: Lines) -> Course {
-    let pen = c.pen;
-    Course {
-        pen: pen,
-        at: c.at,
-        lines: l,
-    }
-}
-
-// The next line of the file, where there is one.
-fn take_next(
-    out: &mut [u8],
-    c: Course,
-    found: &[u8],
-    name: &[u8],
-    several: bool,
-    chunk: &mut [u8],
-    line: &mut [u8],
-    file: &Source,
-    path: &[u8],
-    k: u64,
-) -> Course {
-    let before = c.lines;
-    let l = next_line(&c.pen.rt, file, path, chunk, line, before);
-    let c = with_lines(c, l);
-    if !l.is_line {
-        return c;
-    }
-    let n = l.kept;
-    take_line(out, c, found, name, several, k, part(line, 0, n))
-}
-
-// Whether all records have their names, or there are no more lines.
-fn is_done(c: Course, found: &[u8]) -> bool {
-    let l = c.lines;
-    l.is_end || found.len() <= c.at
-}
-
-fn take_lines(
-    out: &mut [u8],
-    c: Course,
-    found: &[u8],
-    name: &[u8],
-    several: bool,
-    chunk: &mut [u8],
-    line: &mut [u8],
-    file: &Source,
-    path: &[u8],
-) -> Course {
-    let mut r = c;
-    for k in 0..RECORDS {
-        if is_done(r, found) {
-            return r;
+impl Records<'_> {
+    // The name that was asked for, where there are several, and a record's number.
+    fn put_front(self, out: &mut Out<'_>, record: u16) {
+        if let Some(name) = self.name {
+            out.say(format_args!("{name}\t"));
         }
-        r = take_next(
-            out, r, found, name, several, chunk, line, file, path, k as u64,
-        );
+        out.say(record);
     }
-    r
-}
 
-// A record that the file does not name is told: the file is not that of the index.
-fn ended(c: Course, found: &[u8], path: &[u8]) -> Pen {
-    let pen = c.pen;
-    let l = c.lines;
-    if l.is_broken {
-        return with_status(pen, FAULT);
+    fn put(self, out: &mut Out<'_>) {
+        for record in self.found {
+            self.put_front(out, u16::from_be_bytes(*record));
+            out.put(b"\n");
+        }
     }
-    if c.at < found.len() {
-        return with_status(
-            pen,
-            tell_file(
-                &pen.rt,
-                DM,
-                path,
-                b"there are fewer names than the index has",
-            ),
-        );
+
+    // The same with each record's own name, a line of a file; whether the file has them all.
+    fn put_named(self, out: &mut Out<'_>, lines: &mut Lines<'_>) -> Result<bool, Status> {
+        let mut left = self.found;
+        for record in 0..MOST_RECORDS as u16 {
+            let Some((next, behind)) = left.split_first() else {
+                break;
+            };
+            if lines.is_ended() {
+                break;
+            }
+            let Some(name) = lines.next()? else {
+                break;
+            };
+            if u16::from_be_bytes(*next) == record {
+                self.put_front(out, record);
+                out.say(format_args!("\t{}\n", Name(name)));
+                left = behind;
+            }
+        }
+        Ok(left.is_empty())
     }
-    pen
-}
 
-fn put_by_file(
-    out: &mut [u8],
-    pen: Pen,
-    found: &[u8],
-    name: &[u8],
-    several: bool,
-    chunk: &mut [u8],
-    path: &[u8],
-) -> Pen {
-    let Some(file) = open(&pen.rt, DM, path) else {
-        return with_status(pen, FAULT);
-    };
-    let mut line = line_room();
-    let begin = Course {
-        pen: pen,
-        at: 0,
-        lines: none(),
-    };
-    let c = take_lines(
-        out, begin, found, name, several, chunk, &mut line, &file, path,
-    );
-    ended(c, found, path)
-}
-
-// Refused as `dm list` refuses it.
-fn refused(out: &mut [u8], pen: Pen, plate: &[u8], name: &[u8]) -> Pen {
-    let way = Way {
-        all: true,
-        named: true,
-        shelf: false,
-    };
-    answer(out, pen, plate, name, way)
-}
-
-fn put_found(
-    out: &mut [u8],
-    pen: Pen,
-    found: &[u8],
-    text: &mut [u8],
-    names: &[u8],
-    name: &[u8],
-    asked: Asked,
-) -> Pen {
-    if asked.shown {
-        return put_by_file(out, pen, found, name, asked.several, text, names);
-    }
-    put_records(out, pen, found, name, asked.several)
-}
-
-// Looks a name up in an index that was read, whose room is then free.
-fn find_in(
-    out: &mut [u8],
-    pen: Pen,
-    plate: &[u8],
-    text: &mut [u8],
-    used: usize,
-    path: &[u8],
-    names: &[u8],
-    name: &[u8],
-    asked: Asked,
-) -> Pen {
-    let mut found = records_room();
-    let r = dm_index_find(plate, part(text, 0, used), name, &mut found);
-    if r.number == UNFIT {
-        return with_status(
-            pen,
-            refuse(&pen.rt, path, b"the index is damaged or no index"),
-        );
-    }
-    if r.number != 0 {
-        return refused(out, pen, plate, name);
-    }
-    let n = r.length as usize;
-    put_found(out, pen, part(&found, 0, n), text, names, name, asked)
-}
-
-fn find_name(
-    out: &mut [u8],
-    pen: Pen,
-    plate: &[u8],
-    text: &mut [u8],
-    path: &[u8],
-    names: &[u8],
-    name: &[u8],
-    asked: Asked,
-) -> Pen {
-    let read = read_index(&pen.rt, path, text);
-    if read.status != ANSWERED {
-        return with_status(pen, read.status);
-    }
-    find_in(out, pen, plate, text, read.count, path, names, name, asked)
-}
-
-// The name that an argument is. Of one that is longer than its room the front is refused for the same reason as the whole.
-fn find_word(
-    out: &mut [u8],
-    pen: Pen,
-    plate: &[u8],
-    text: &mut [u8],
-    path: &[u8],
-    names: &[u8],
-    i: usize,
-    asked: Asked,
-) -> Pen {
-    let mut name = io::buffer();
-    match pen.rt.arg(i, &mut name) {
-        Ok(n) => find_name(out, pen, plate, text, path, names, &name[..n], asked),
-        Err(_) => refused(out, pen, plate, &name),
+    // Where it does not, that is told: it is not the file of the index.
+    fn put_by_file(
+        self,
+        out: &mut Out<'_>,
+        names: FilePath<'_>,
+        chunk: &mut [u8],
+    ) -> Result<(), Status> {
+        let source = names.open()?;
+        let mut lines = Lines::new(names, source, chunk);
+        if self.put_named(out, &mut lines)? {
+            return Ok(());
+        }
+        Err(names.fault_for("there are fewer names than the index has"))
     }
 }
 
-// What the argument at a place asks for, if it is a name: those from `asked.first` on are.
-fn find_next(
-    out: &mut [u8],
-    pen: Pen,
-    plate: &[u8],
-    text: &mut [u8],
-    path: &[u8],
-    names: &[u8],
-    s: Scan,
-    i: usize,
-    asked: Asked,
-) -> Pen {
-    if pen.status == FAULT || s.kind != OPERAND || i < asked.first {
-        return pen;
+impl<'a> Search<'a> {
+    fn new(
+        plate: &'a [u8],
+        index: FilePath<'a>,
+        several: bool,
+        names: Option<FilePath<'a>>,
+    ) -> Search<'a> {
+        Search {
+            plate,
+            index,
+            several,
+            names,
+        }
     }
-    find_word(out, pen, plate, text, path, names, i, asked)
+
+    // The records of a name, where list does not refuse it. The index is read into a room that is then free.
+    fn look_up<'b>(
+        self,
+        text: &mut [u8],
+        name: &[u8],
+        room: &'b mut [u8],
+    ) -> Result<Option<&'b [[u8; 2]]>, Status> {
+        let index = read_index(self.index, text)?;
+        let r = dm_index_find(self.plate, index, name, room);
+        match r.number {
+            0 => {
+                let found = room.get(..r.length as usize).unwrap_or_default();
+                Ok(Some(found.as_chunks::<2>().0))
+            }
+            NUMBER => Err(Unfit::Damaged.tell(self.index)),
+            _ => Ok(None),
+        }
+    }
+
+    // As dm list refuses it.
+    fn refuse(self, out: &mut Out<'_>, name: &[u8]) {
+        let plate = self.plate;
+        Answering { plate, way: LISTED }.answer(out, name);
+    }
+
+    fn find(self, out: &mut Out<'_>, text: &mut [u8], name: &[u8]) -> Result<(), Status> {
+        let mut room = [0; RECORDS_ROOM];
+        let Some(found) = self.look_up(text, name, &mut room)? else {
+            self.refuse(out, name);
+            return Ok(());
+        };
+        let records = Records {
+            name: self.several.then_some(Name(name)),
+            found,
+        };
+        match self.names {
+            Some(names) => records.put_by_file(out, names, text)?,
+            None => records.put(out),
+        }
+        Ok(())
+    }
 }
 
-fn find_words(
-    out: &mut [u8],
-    pen: Pen,
-    plate: &[u8],
-    text: &mut [u8],
-    path: &[u8],
-    names: &[u8],
-    asked: Asked,
-) -> Pen {
-    let mut s = front::options::none();
-    let mut said = pen;
-    let end = arg_count(&pen.rt);
-    if end <= 1 {
-        return said;
+impl Asked<'_> {
+    // The file that --names names.
+    fn named_file<'b>(self, room: &'b mut [u8]) -> Result<Option<FilePath<'b>>, Status> {
+        let Some(i) = self.scan.names else {
+            return Ok(None);
+        };
+        let path = FilePath::given(self.host, "--names", value(&self.host.rt, i, room))?;
+        if path.is_dash() {
+            return Err(
+                self.host
+                    .misused("the names of an index are a file, and not -"),
+            );
+        }
+        Ok(Some(path))
     }
-    for i in 1..end {
-        s = next(&pen.rt, s, i);
-        said = find_next(out, said, plate, text, path, names, s, i, asked);
-    }
-    said
-}
 
-// Whether the file is an index, asked once before the names: the empty name is refused by none.
-fn index_status(rt: &HostRuntime, plate: &[u8], text: &mut [u8], path: &[u8]) -> i32 {
-    let read = read_index(rt, path, text);
-    if read.status != ANSWERED {
-        return read.status;
+    // The names are the arguments from a place on. Of one that is longer than its room the front is refused for the same reason as the whole.
+    fn find_words(self, search: Search<'_>, out: &mut Out<'_>, text: &mut [u8]) {
+        for (i, scan) in Arguments::of(self.host) {
+            if out.status() == Status::Fault {
+                break;
+            }
+            if scan.kind == Kind::Operand && self.fourth <= i {
+                let mut room = [0; WORD_ROOM];
+                match self.host.rt.arg(i, &mut room) {
+                    Ok(n) => {
+                        if let Err(status) = search.find(out, text, &room[..n]) {
+                            out.worsen(status);
+                        }
+                    }
+                    Err(_) => search.refuse(out, &room),
+                }
+            }
+        }
     }
-    let used = read.count;
-    let mut found = records_room();
-    let r = dm_index_find(plate, part(text, 0, used), b"", &mut found);
-    if r.number != 0 {
-        return refuse(rt, path, b"the index is damaged or no index");
-    }
-    ANSWERED
-}
 
-pub(crate) fn run(
-    rt: &HostRuntime,
-    plate: &[u8],
-    text: &mut [u8],
-    out: &mut [u8],
-    path: &[u8],
-    names: &[u8],
-    asked: Asked,
-) -> i32 {
-    let status = index_status(rt, plate, text, path);
-    if status != ANSWERED {
-        return status;
+    pub(crate) fn find(self, text: &mut [u8], out: &mut [u8]) -> Result<Status, Status> {
+        let host = self.host;
+        let mut index = [0; WORD_ROOM];
+        let mut room = [0; WORD_ROOM];
+        let index = match word(&host.rt, self.third, &mut index) {
+            Ok(b"-") | Err(_) => return Err(no_path(host)),
+            Ok(bytes) => FilePath::new(host, bytes),
+        };
+        let names = self.named_file(&mut room)?;
+        let several = odd_place(host, self.scan, true).is_some();
+        let search = Search::new(self.plate, index, several, names);
+        // Whether the file is an index, asked once before the names: the empty name is refused by none.
+        if search.look_up(text, b"", &mut [0; RECORDS_ROOM])?.is_none() {
+            return Err(Unfit::Damaged.tell(index));
+        }
+        let mut out = Out::answers(host, out);
+        self.find_words(search, &mut out, text);
+        Ok(out.finish())
     }
-    let pen = find_words(out, answers(rt, DM), plate, text, path, names, asked);
-    let pen = flush(out, pen);
-    pen.status
 }

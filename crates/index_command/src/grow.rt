@@ -1,9 +1,7 @@
-// One name more in index and report, and what is told of it.
-use super::kept::refuse;
-use front::out::{ANSWERED, DM, answers};
-use front::rooms::{byte, note_room};
-use names::Way;
-use names::answer::answer;
+// Names added to an index and its report, and what is told of them.
+use super::unfit::Unfit;
+use front::out::Out;
+use names::answer::{Answering, Codes, Way};
 use zengilvar::code_index::dm_index_add;
 
 const NAMES_MOST: usize = 4096;
@@ -11,92 +9,57 @@ const NAMES_MOST: usize = 4096;
 // With so many bytes in use there may be no room for 64 entries more.
 const NEARLY_FULL: usize = 65280;
 
-// What is in use of index and report, whether the last name was not added, and whether some were refused.
-#[derive(Clone, Copy)]
-pub(crate) struct Grown {
+// As dm list answers, each name in front of its codes.
+pub(crate) const LISTED: Way = Way::List {
+    codes: Codes::All,
+    named: true,
+};
+
+// An index and its report while names are added.
+// Stays: a length stands beside each room, since the C interface of the library is lent the rooms whole and told how much of them is in use.
+#[derive(Drop)]
+pub(crate) struct Growth<'a> {
+    pub plate: &'a [u8],
+    pub index: &'a mut [u8],
     pub used: usize,
+    pub report: &'a mut [u8],
     pub noted: usize,
-    pub is_unfit: bool,
-    pub status: i32,
 }
 
-pub(crate) fn from(used: usize, noted: usize) -> Grown {
-    Grown {
-        used: used,
-        noted: noted,
-        is_unfit: false,
-        status: ANSWERED,
+impl Growth<'_> {
+    // Why a name was not added.
+    fn unfit(&self) -> Unfit {
+        if NAMES_MOST <= self.noted {
+            Unfit::ManyNames
+        } else if NEARLY_FULL < self.used {
+            Unfit::Full
+        } else {
+            Unfit::Damaged
+        }
     }
-}
 
-fn unfit(g: Grown) -> Grown {
-    Grown {
-        used: g.used,
-        noted: g.noted,
-        is_unfit: true,
-        status: g.status,
+    // A name that list refuses is added too: it keeps its number, and is told as list tells it.
+    pub(crate) fn add(&mut self, out: &mut Out<'_>, name: &[u8]) -> Result<(), Unfit> {
+        let used = self.used;
+        let record = self.noted;
+        let r = dm_index_add(self.plate, name, self.index, used, self.report, record);
+        if r.number != 0 {
+            return Err(self.unfit());
+        }
+        self.used = r.index_length as usize;
+        self.noted = r.report_length as usize;
+        if self.report.get(record).is_some_and(|note| *note != 0) {
+            let plate = self.plate;
+            Answering { plate, way: LISTED }.answer(out, name);
+        }
+        Ok(())
     }
-}
 
-// Tells of a name what `dm list` tells of it.
-fn tell(rt: &HostRuntime, plate: &[u8], name: &[u8]) -> i32 {
-    let mut room = note_room();
-    let way = Way {
-        all: true,
-        named: true,
-        shelf: false,
-    };
-    let pen = answer(&mut room, answers(rt, DM), plate, name, way);
-    pen.status
-}
+    pub(crate) fn index(&self) -> &[u8] {
+        self.index.get(..self.used).unwrap_or_default()
+    }
 
-// The worse of two statuses.
-pub(crate) fn worse(a: i32, b: i32) -> i32 {
-    if a < b {
-        return b;
+    pub(crate) fn report(&self) -> &[u8] {
+        self.report.get(..self.noted).unwrap_or_default()
     }
-    a
-}
-
-// A name that list refuses is added too: it keeps its number, and is told.
-fn status_of(rt: &HostRuntime, plate: &[u8], name: &[u8], report: &[u8], at: usize) -> i32 {
-    if byte(report, at) == 0 {
-        return ANSWERED;
-    }
-    tell(rt, plate, name)
-}
-
-pub(crate) fn grow(
-    rt: &HostRuntime,
-    plate: &[u8],
-    name: &[u8],
-    index: &mut [u8],
-    report: &mut [u8],
-    g: Grown,
-) -> Grown {
-    let r = dm_index_add(plate, name, index, g.used, report, g.noted);
-    if r.number != 0 {
-        return unfit(g);
-    }
-    Grown {
-        used: r.index_length as usize,
-        noted: r.report_length as usize,
-        is_unfit: false,
-        status: worse(g.status, status_of(rt, plate, name, report, g.noted)),
-    }
-}
-
-// Why a name was not added.
-pub(crate) fn tell_unfit(rt: &HostRuntime, path: &[u8], g: Grown) -> i32 {
-    if NAMES_MOST <= g.noted {
-        return refuse(rt, path, b"an index has at most 4,096 names");
-    }
-    if NEARLY_FULL < g.used {
-        return refuse(
-            rt,
-            path,
-            b"the index would have over 65,536 bytes; such an index is for the library alone",
-        );
-    }
-    refuse(rt, path, b"the index is damaged or no index")
 }

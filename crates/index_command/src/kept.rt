@@ -1,145 +1,118 @@
 // The two files of an index: INDEX, and INDEX.report beside it.
-use check::same;
-use files::facts::{Facts, is_same, look_at};
-use files::keep::keep;
-use files::read::read_path;
+use super::unfit::Unfit;
+use files::facts::is_same;
+use files::path::FilePath;
 use files::system::open_read;
-use files::tell::{put_path, tell_file};
-use front::options::tell_words;
-use front::out::{ANSWERED, DM, FAULT, REFUSED, flush, note, put, put_who};
-use front::rooms::{lay, note_room, part};
-use front::words::put_refusal;
-use std::num::wrapping_add_usize;
-
-// The refusal of an index, in 02.
-const UNFIT: u64 = 18;
+use front::host::Host;
+use front::options::word;
+use front::status::Status;
+use std::fs::Metadata;
 
 // The program takes an index up to so many bytes; the library takes any.
 const INDEX_MOST: usize = 65536;
 
+// A report has a byte a name, and a byte more tells a longer file.
 const REPORT_MOST: usize = 4096;
 
+pub(crate) const REPORT_ROOM: usize = 4097;
+
+// What the path of a report ends with.
+const END: &[u8] = b".report";
+
 // Two files cannot be read from one pipe, nor written to one.
-pub(crate) fn no_path(rt: &HostRuntime) -> i32 {
-    tell_words(
-        rt,
-        DM,
-        b"INDEX is a path of a file, of at most 4,088 bytes, and not -",
-        b"; dm help tells more\n",
-    )
+pub(crate) fn no_path(host: Host) -> Status {
+    host.misused("INDEX is a path of a file, of at most 4,088 bytes, and not -")
 }
 
-// The path of the report of the index at a path; nothing where there is none.
-pub(crate) fn beside(path: &[u8], end: usize, into: &mut [u8]) -> usize {
-    let name = part(path, 0, end);
-    if same(name, b"-") {
-        return 0;
+// A file that is no longer than the program takes it.
+fn read_up_to<'a>(
+    most: usize,
+    too_long: Unfit,
+    path: FilePath<'_>,
+    room: &'a mut [u8],
+) -> Result<&'a [u8], Status> {
+    let bytes = path.read(room)?;
+    if most < bytes.len() {
+        return Err(too_long.tell(path));
     }
-    let n = lay(name, into);
-    if n == 0 {
-        return 0;
-    }
-    if into.len() < n {
-        return 0;
-    }
-    let more = lay(b".report", &mut into[n..]);
-    if more == 0 {
-        return 0;
-    }
-    wrapping_add_usize(n, more)
+    Ok(bytes)
 }
 
-// Tells why an index, or names that were to be one, are refused.
-pub(crate) fn refuse(rt: &HostRuntime, path: &[u8], words: &[u8]) -> i32 {
-    let mut room = note_room();
-    let pen = put_who(&mut room, note(rt, DM));
-    let pen = put_path(&mut room, pen, path);
-    let pen = put(&mut room, pen, b": ");
-    let pen = put_refusal(&mut room, pen, UNFIT);
-    let pen = put(&mut room, pen, words);
-    let pen = put(&mut room, pen, b"\n");
-    flush(&room, pen);
-    REFUSED
+pub(crate) fn read_index<'a>(path: FilePath<'_>, room: &'a mut [u8]) -> Result<&'a [u8], Status> {
+    read_up_to(INDEX_MOST, Unfit::LongIndex, path, room)
 }
 
-// How many bytes a file has, and the status where it is not taken.
+// The path of the report of the index at a path, where there is one.
+fn report_path<'a>(index: &[u8], room: &'a mut [u8]) -> Option<&'a [u8]> {
+    let n = index.len();
+    let end = n + END.len();
+    if room.len() < end || matches!(index, b"" | b"-") {
+        return None;
+    }
+    room[..n].copy_from_slice(index);
+    room[n..end].copy_from_slice(END);
+    Some(&room[..end])
+}
+
+// The paths of the two files.
 #[derive(Clone, Copy)]
-pub(crate) struct File {
-    pub count: usize,
-    pub status: i32,
+pub(crate) struct Kept<'a> {
+    pub index: FilePath<'a>,
+    pub report: FilePath<'a>,
 }
 
-fn not_taken(status: i32) -> File {
-    File {
-        count: 0,
-        status: status,
+impl<'a> Kept<'a> {
+    // By the argument at a place, which names the index.
+    pub(crate) fn at(
+        host: Host,
+        i: usize,
+        index: &'a mut [u8],
+        report: &'a mut [u8],
+    ) -> Option<Kept<'a>> {
+        let index = word(&host.rt, i, index).ok()?;
+        let report = report_path(index, report)?;
+        Some(Kept {
+            index: FilePath::new(host, index),
+            report: FilePath::new(host, report),
+        })
+    }
+
+    pub(crate) fn read_report(self, room: &mut [u8]) -> Result<&[u8], Status> {
+        read_up_to(REPORT_MOST, Unfit::LongReport, self.report, room)
+    }
+
+    // Whether the report's path leads to the file that was read.
+    fn is_report(self, input: Option<&Metadata>) -> bool {
+        let report = open_read(&self.report.host.rt, self.report.bytes);
+        let Ok(report) = report.and_then(|file| file.metadata()) else {
+            return false;
+        };
+        input.is_some_and(|input| is_same(&report, input))
+    }
+
+    // The index first and then the report, each replaced when it is whole. Where the run ends between the two, the next `add` tells: the index has a record that
+    // the report does not have, which the library refuses, or index and report differ in who was refused (pair.rt). With the report first, a name that was
+    // counted and has no entry would be found by nobody.
+    pub(crate) fn keep(
+        self,
+        index: &[u8],
+        report: &[u8],
+        input: Option<&Metadata>,
+    ) -> Result<(), Status> {
+        if self.is_report(input) {
+            return Err(
+                self.report
+                    .fault_for("this is the file that is read, and is not written over"),
+            );
+        }
+        done(self.index.keep(index, input))?;
+        done(self.report.keep(report, input))
     }
 }
 
-fn read_file(rt: &HostRuntime, path: &[u8], into: &mut [u8], most: usize, words: &[u8]) -> File {
-    let got = read_path(rt, DM, path, into);
-    if !got.is_read {
-        return not_taken(FAULT);
+fn done(status: Status) -> Result<(), Status> {
+    match status {
+        Status::Answered => Ok(()),
+        fault => Err(fault),
     }
-    if most < got.count {
-        return not_taken(refuse(rt, path, words));
-    }
-    File {
-        count: got.count,
-        status: ANSWERED,
-    }
-}
-
-pub(crate) fn read_index(rt: &HostRuntime, path: &[u8], into: &mut [u8]) -> File {
-    read_file(
-        rt,
-        path,
-        into,
-        INDEX_MOST,
-        b"the index has over 65,536 bytes; such an index is for the library alone",
-    )
-}
-
-pub(crate) fn read_report(rt: &HostRuntime, path: &[u8], into: &mut [u8]) -> File {
-    read_file(
-        rt,
-        path,
-        into,
-        REPORT_MOST,
-        b"the report has over 4,096 bytes, a byte a name",
-    )
-}
-
-// Whether a path leads to the file that was read.
-fn is_input(rt: &HostRuntime, path: &[u8], input: Facts) -> bool {
-    match open_read(rt, path) {
-        Ok(file) => is_same(look_at(&file), input),
-        Err(_) => false,
-    }
-}
-
-// The index first and then the report, each replaced when it is whole. Where the run ends between the two, the next `add` tells: the index has a record that
-// the report does not have, which the library refuses, or index and report differ in who was refused (pair.rt). With the report first, a name that was
-// counted and has no entry would be found by nobody.
-pub(crate) fn keep_both(
-    rt: &HostRuntime,
-    path: &[u8],
-    index: &[u8],
-    beside: &[u8],
-    report: &[u8],
-    input: Facts,
-) -> i32 {
-    if is_input(rt, beside, input) {
-        return tell_file(
-            rt,
-            DM,
-            beside,
-            b"this is the file that is read, and is not written over",
-        );
-    }
-    let status = keep(rt, DM, path, index, input);
-    if status != ANSWERED {
-        return status;
-    }
-    keep(rt, DM, beside, report, input)
 }

@@ -1,109 +1,77 @@
 // An index from a file of names, a line each, added one after the other: that is the index that making gives (02, M-108: "gives the same index and report as
 // making them afresh"), and needs no room for the names.
-use super::grow::{Grown, from, grow, tell_unfit, worse};
-use super::kept::keep_both;
-use super::lines::{Lines, line_room, next_line, none};
+use super::Asked;
+use super::grow::Growth;
+use super::kept::{Kept, REPORT_ROOM, no_path};
 use files::facts::look;
-use files::read::{Source, open_behind};
-use front::out::{DM, FAULT};
-use front::rooms::part;
-use names::lines::{name_start, without_cr};
+use files::path::FilePath;
+use front::options::word;
+use front::out::Out;
+use front::rooms::{NOTE_ROOM, WORD_ROOM};
+use front::status::Status;
+use names::given::is_input;
+use names::lines::Lines;
 
 // One name more than an index has, so that it is refused and not passed over.
 const LINES_MOST: usize = 4097;
 
-// The name that a line is; that of the first may stand behind a byte order mark.
-fn grow_by(
-    rt: &HostRuntime,
-    plate: &[u8],
-    line: &[u8],
-    index: &mut [u8],
-    report: &mut [u8],
-    g: Grown,
-) -> Grown {
-    let start = name_start(line, g.noted == 0);
-    let end = without_cr(line);
-    grow(rt, plate, part(line, start, end), index, report, g)
-}
-
-// How far it came, and whether the file was read to there.
-#[derive(Clone, Copy)]
-struct Course {
-    grown: Grown,
-    lines: Lines,
-}
-
 fn take_lines(
-    rt: &HostRuntime,
-    plate: &[u8],
-    index: &mut [u8],
-    report: &mut [u8],
-    chunk: &mut [u8],
-    line: &mut [u8],
-    file: &Source,
-    path: &[u8],
-) -> Course {
-    let mut l = none();
-    let mut g = from(0, 0);
-    for i in 0..LINES_MOST {
-        l = next_line(rt, file, path, chunk, line, l);
-        if !l.is_line || g.is_unfit {
-            return Course { grown: g, lines: l };
+    out: &mut Out<'_>,
+    growth: &mut Growth<'_>,
+    lines: &mut Lines<'_>,
+    from: FilePath<'_>,
+) -> Result<(), Status> {
+    for turn in 1..=LINES_MOST {
+        let Some(name) = lines.next()? else {
+            break;
+        };
+        if let Err(unfit) = growth.add(out, name) {
+            // A fault of reading the line behind it is told in its place.
+            if turn < LINES_MOST {
+                lines.next()?;
+            }
+            return Err(unfit.tell(from));
         }
-        let n = l.kept;
-        g = grow_by(rt, plate, part(line, 0, n), index, report, g);
     }
-    Course { grown: g, lines: l }
+    Ok(())
 }
 
-fn take_file(
-    rt: &HostRuntime,
-    plate: &[u8],
-    index: &mut [u8],
-    report: &mut [u8],
-    chunk: &mut [u8],
-    file: &Source,
-    from: &[u8],
-    path: &[u8],
-    beside: &[u8],
-) -> i32 {
-    let mut line = line_room();
-    let input = look(rt, file);
-    let c = take_lines(rt, plate, index, report, chunk, &mut line, file, from);
-    let g = c.grown;
-    let l = c.lines;
-    if l.is_broken {
-        return FAULT;
+impl Asked<'_> {
+    // The index in the room for a text; the lines are read into that for what is said, since only refusals are.
+    fn make_from(
+        self,
+        from: FilePath<'_>,
+        to: Kept<'_>,
+        text: &mut [u8],
+        chunk: &mut [u8],
+    ) -> Result<Status, Status> {
+        let source = from.open_behind(is_input(self.host, self.scan.plate))?;
+        let input = look(&self.host.rt, &source);
+        let mut note = [0; NOTE_ROOM];
+        let mut out = Out::answers(self.host, &mut note);
+        let mut report = [0; REPORT_ROOM];
+        let mut growth = Growth {
+            plate: self.plate,
+            index: text,
+            used: 0,
+            report: &mut report,
+            noted: 0,
+        };
+        let mut lines = Lines::new(from, source, chunk);
+        take_lines(&mut out, &mut growth, &mut lines, from)?;
+        to.keep(growth.index(), growth.report(), input.as_ref())?;
+        Ok(out.status())
     }
-    if g.is_unfit {
-        return tell_unfit(rt, from, g);
-    }
-    let used = g.used;
-    let noted = g.noted;
-    let status = keep_both(
-        rt,
-        path,
-        part(index, 0, used),
-        beside,
-        part(report, 0, noted),
-        input,
-    );
-    worse(g.status, status)
-}
 
-pub(crate) fn run(
-    rt: &HostRuntime,
-    plate: &[u8],
-    index: &mut [u8],
-    report: &mut [u8],
-    chunk: &mut [u8],
-    from: &[u8],
-    path: &[u8],
-    beside: &[u8],
-    is_spent: bool,
-) -> i32 {
-    match open_behind(rt, DM, from, is_spent) {
-        Some(file) => take_file(rt, plate, index, report, chunk, &file, from, path, beside),
-        None => FAULT,
+    pub(crate) fn make(self, text: &mut [u8], chunk: &mut [u8]) -> Result<Status, Status> {
+        let host = self.host;
+        let mut names = [0; WORD_ROOM];
+        let mut index = [0; WORD_ROOM];
+        let mut report = [0; WORD_ROOM];
+        let from = FilePath::given(host, "NAMES", word(&host.rt, self.third, &mut names))?;
+        let Some(to) = Kept::at(host, self.fourth, &mut index, &mut report) else {
+            return Err(no_path(host));
+        };
+        self.make_from(from, to, text, chunk)
     }
 }

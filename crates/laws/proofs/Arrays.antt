@@ -1,30 +1,16 @@
 -- Facts on arrays of which the first n entries count: what a loop over them goes by, and what stands behind them. Assumes nothing.
 use Prim.Native.Nat.{ℕ, zero, suc, ◌+◌, ◌-◌, ◌≤◌, ◌<◌}
 use mathlib.Core.Path.{◌≡◌, sym, ap, ◌∙◌}
-use mathlib.Core.List.{List, [], ◌∷◌, ◌++◌, map}
+use mathlib.Core.List.{List, [], ◌∷◌, ◌++◌}
 use native.Mathlib.Nat.{sub-zero}
-use native.Mathlib.Numerals.{add-one}
 use native.Mathlib.Omega.{arith}
-use lib.ListN.{length, take, drop, get_or, replicate, length-take, take-append-drop, drop_of_length-le}
-use lib.Seq.{drop-cons, drop-drop, get_or-take}
+use lib.ListN.{length, take, drop, get_or, replicate, length-take, take-append-drop}
+use lib.Seq.{drop-drop, get_or-take}
 use Rattle.laws.specs.Arrays.{Each}
 
 -- Two lists are equal by what stands before a place and what from it on.
 pub by_halves : {A : Type 0} (n : ℕ) (l m : List A) → take n l ≡ take n m → drop n l ≡ drop n m → l ≡ m
 by_halves n l m p q = sym (take-append-drop n l) ∙ rw (p, q) (take-append-drop n m)
-
--- ---- the first n of an array, from place i on, each through f
-
-module _ {A B : Type 0} (f : A → B) (l : List A) (d : A) (n i : ℕ) where
-  pub mapped_from : n ≤ length l → i < n → map f (drop i (take n l)) ≡ f (get_or l i d) ∷ map f (drop (i + 1) (take n l))
-  mapped_from p h =
-      let q : i < length (take n l) = simp length-take (omega arith) in
-      rw (add-one i, drop-cons (take n l) i d q, get_or-take n l i d h)
-
-  pub mapped_end : n ≤ i → map f (drop i (take n l)) ≡ []
-  mapped_end h =
-      let q : length (take n l) ≤ i = simp length-take (omega arith) in
-      rw (drop_of_length-le (take n l) q)
 
 -- ---- what holds of each
 
@@ -46,12 +32,6 @@ each_behind P [] x e p = (p, tt)
 each_behind P (y ∷ l) x e p = (e.0, each_behind P l x e.1 p)
 
 -- ---- from a place on
-
--- Two lists that agree from a place on agree from any later one on.
-pub same_further : {A : Type 0} (l l' : List A) (n j : ℕ) → n ≤ j → drop n l ≡ drop n l' → drop j l ≡ drop j l'
-same_further l l' n j h e =
-    let at : n + (j - n) ≡ j = omega arith in
-    ap (λ (k : ℕ). drop k l) (sym at) ∙ sym (drop-drop (j - n) n l) ∙ ap (drop (j - n)) e ∙ drop-drop (j - n) n l' ∙ ap (λ (k : ℕ). drop k l') at
 
 drop_replicate : {A : Type 0} (k n : ℕ) (z : A) → drop k (replicate n z) ≡ replicate (n - k) z
 drop_replicate zero n z = ap (λ (m : ℕ). replicate m z) (sym (sub-zero n))

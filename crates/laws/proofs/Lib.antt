@@ -1,6 +1,5 @@
 pub mod Tests
 pub mod Lists
-pub mod Counts
 pub mod Splits
 pub mod Only
 pub mod Table
@@ -17,6 +16,7 @@ pub mod Alike
 pub mod Sorting
 pub mod Rising
 pub mod Positions
+pub mod Library
 pub mod Parting
 pub mod BitOrder
 pub mod Lending

@@ -1,13 +1,13 @@
 -- Facts on `same`, the test that two lists are equal. Assumes nothing.
-use Prim.Native.Nat.{ℕ, suc, ◌+◌, ◌≤◌, ◌<◌}
+use Prim.Native.Nat.{ℕ, suc, ◌+◌, ◌<◌}
 use mathlib.Core.Path.{◌≡◌, refl, ap, ap₂, ◌∙◌}
 use mathlib.Core.Bool.{Bool, true, false, ◌&&◌, false≢true}
 use mathlib.Core.List.{List, [], ◌∷◌, ◌++◌}
 use native.Mathlib.Numerals.{add-one}
 use native.Mathlib.Omega.{arith}
-use borrow.Author.Tests.{eq-eqb, ne_eqb, eqb-true}
+use borrow.Author.Tests.{eq-eqb, eqb-true}
 use lib.Dec.{eqb}
-use lib.ListN.{length, drop, get_or, drop_of_length-le}
+use lib.ListN.{length, drop, get_or}
 use lib.Seq.{drop-cons}
 use Rattle.laws.specs.Lists.{same}
 use Rattle.laws.proofs.Tests.{and_true, both_true, and_right_false}
@@ -45,9 +45,3 @@ module _ (xs ys : List ℕ) (i : ℕ) where
 
   pub same_here : i < length xs → i < length ys → get_or xs i 0 ≡ get_or ys i 0 → same (drop i xs) (drop i ys) ≡ same (drop (i + 1) xs) (drop (i + 1) ys)
   same_here p q e = from_here p q ∙ rw (eq-eqb (get_or xs i 0) (get_or ys i 0) e)
-
-  pub differ_here : i < length xs → i < length ys → (get_or xs i 0 ≡ get_or ys i 0 → ⊥) → same (drop i xs) (drop i ys) ≡ false
-  differ_here p q e = from_here p q ∙ rw (ne_eqb (get_or xs i 0) (get_or ys i 0) e)
-
-  pub same_end : length xs ≤ i → length ys ≤ i → same (drop i xs) (drop i ys) ≡ true
-  same_end p q = rw (drop_of_length-le xs p, drop_of_length-le ys q)

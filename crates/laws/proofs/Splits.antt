@@ -2,12 +2,10 @@
 use mathlib.Core.Path.{◌≡◌, refl, ap}
 use mathlib.Core.Bool.{Bool, true, false, cond}
 use mathlib.Core.List.{List, [], ◌∷◌}
-use Prim.Native.Nat.{ℕ, zero, suc, ◌+◌, ◌<◌, ◌≤◌}
+use Prim.Native.Nat.{ℕ, zero, suc, ◌<◌, ◌≤◌}
 use native.Mathlib.Omega.{arith}
-use native.Mathlib.Numerals.{add-one}
 use lib.Dec.{eqb}
-use lib.ListN.{length, take, drop, get_or}
-use lib.Seq.{drop-cons}
+use lib.ListN.{length, take, drop}
 use Rattle.laws.specs.Lists.{until, count_of, onto, split_at}
 
 module _ (b : ℕ) where
@@ -55,9 +53,3 @@ module _ (b : ℕ) where
       go : (t : Bool) → 0 < cond t (suc (count_of b xs)) (count_of b xs) → (0 < count_of b xs → until b xs < length xs) → cond t 0 (suc (until b xs)) < suc (length xs)
       go true h below = omega arith
       go false h below = let n = below h in omega arith
-
-  -- From a place on: what stands there ends the part, or is its first.
-  pub split_front : (l : List ℕ) (i : ℕ) → i < length l
-      → split_at b (drop i l) ≡ cond (eqb (get_or l i 0) b) ([] ∷ split_at b (drop (i + 1) l)) (onto (get_or l i 0) (split_at b (drop (i + 1) l)))
-  unfolding split_at
-  split_front l i h = rw (drop-cons l i 0, add-one)

@@ -1,131 +1,135 @@
 // The answer on one name.
-use super::Way;
-use front::caret::put_caret;
-use front::out::{Pen, REFUSED, flush, note, put, put_who, with_status};
-use front::rooms::{codes_length, codes_room, note_room};
-use front::show::{put_name, put_number};
-use front::words::{name_words, put_refusal};
-use zengilvar::{DmCoded, dm_encode, dm_list};
+use front::out::Out;
+use front::rooms::CODES_ROOM;
+use front::show::Name;
+use front::status::Status;
+use front::words::{NameRefusal, RefusedName};
+use zengilvar::{dm_encode, dm_list};
 
-// The number of the refusal of a name because it has over 64 branches; encode answers then.
-const BRANCHES: u64 = 12;
-
-// The numbers of the refusals that have a place in the name.
-const BROKEN: u64 = 2;
-
-const STRANGE: u64 = 11;
-
-// The caret below the character that a name was refused for, where it was for one.
-fn put_place(out: &mut [u8], pen: Pen, name: &[u8], r: DmCoded) -> Pen {
-    let number = r.number;
-    if number == BROKEN || number == STRANGE {
-        return put_caret(out, pen, name, r.place as usize);
-    }
-    pen
+// All codes of a name, or one, the first.
+#[derive(Clone, Copy, PartialEq, Eq)]
+pub enum Codes {
+    All,
+    First,
 }
 
-fn coded(plate: &[u8], name: &[u8], all: bool, out: &mut [u8]) -> DmCoded {
-    if all {
-        return dm_list(plate, name, out);
+// How a name is answered: by its codes, with the name in front where that is asked; or by shelf and search codes, as the desk does.
+#[derive(Clone, Copy, PartialEq, Eq)]
+pub enum Way {
+    List { codes: Codes, named: bool },
+    Desk,
+}
+
+// How names are answered, and by which plate.
+#[derive(Clone, Copy)]
+pub struct Answering<'a> {
+    pub plate: &'a [u8],
+    pub way: Way,
+}
+
+// The bytes of so many codes, a bar between two.
+fn codes_length(count: u64) -> usize {
+    count.saturating_mul(7).saturating_sub(1) as usize
+}
+
+// The codes of a name in the room for them, or why it was refused.
+pub(crate) fn coded<'r, 'n>(
+    plate: &[u8],
+    name: &'n [u8],
+    codes: Codes,
+    room: &'r mut [u8],
+) -> Result<&'r [u8], RefusedName<'n>> {
+    let r = match codes {
+        Codes::All => dm_list(plate, name, room),
+        Codes::First => dm_encode(plate, name, room),
+    };
+    match NameRefusal::of(r.number) {
+        Some(refusal) => Err(RefusedName {
+            refusal,
+            name,
+            place: r.place as usize,
+        }),
+        None => Ok(room.get(..codes_length(r.count)).unwrap_or_default()),
     }
-    dm_encode(plate, name, out)
 }
 
 // A refusal on standard error, behind all that was answered before.
-fn refused(out: &[u8], pen: Pen, name: &[u8], r: DmCoded) -> Pen {
-    let told = flush(out, pen);
-    let mut room = note_room();
-    let words = put_who(&mut room, note(&pen.rt, pen.who));
-    let words = put_name(&mut room, words, name);
-    let words = put(&mut room, words, b": ");
-    let words = put_refusal(&mut room, words, r.number);
-    let words = name_words(&mut room, words, r.number, name, r.place as usize);
-    let words = put(&mut room, words, b"\n");
-    let words = put_place(&mut room, words, name, r);
-    flush(&room, words);
-    with_status(told, REFUSED)
+fn tell_refused(out: &mut Out<'_>, refused: RefusedName<'_>) {
+    out.flush();
+    let name = Name(refused.name);
+    let number = refused.refusal.number();
+    let caret = refused.caret();
+    out.host()
+        .tell(format_args!("{name}: {number}: {refused}\n{caret}"));
+    out.worsen(Status::Refused);
 }
 
-fn put_front(out: &mut [u8], pen: Pen, name: &[u8], named: bool) -> Pen {
-    if !named {
-        return pen;
+// A refusal within an answer.
+fn put_refused(out: &mut Out<'_>, refused: RefusedName<'_>) {
+    let number = refused.refusal.number();
+    let caret = refused.caret();
+    out.say(format_args!("refused, {refused} ({number})\n{caret}"));
+    out.worsen(Status::Refused);
+}
+
+// The shelf, and what stands in front of the codes to search under.
+fn put_shelf(out: &mut Out<'_>, codes: &[u8]) {
+    out.put(b"shelf ");
+    out.put(codes.get(..codes_length(1)).unwrap_or(codes));
+    out.put(b", search ");
+}
+
+impl Answering<'_> {
+    // The codes, behind the name where that is asked.
+    fn list_line(self, out: &mut Out<'_>, name: &[u8], codes: Codes, named: bool) {
+        let mut room = [0; CODES_ROOM];
+        match coded(self.plate, name, codes, &mut room) {
+            Err(refused) => tell_refused(out, refused),
+            Ok(codes) => {
+                if named {
+                    out.say(Name(name));
+                    out.put(b"\t");
+                }
+                out.put(codes);
+                out.put(b"\n");
+            }
+        }
     }
-    let pen = put_name(out, pen, name);
-    put(out, pen, b"\t")
-}
 
-// The codes, behind the name where that is asked.
-fn list_line(out: &mut [u8], pen: Pen, plate: &[u8], name: &[u8], way: Way) -> Pen {
-    let mut codes = codes_room();
-    let r = coded(plate, name, way.all, &mut codes);
-    if r.number != 0 {
-        return refused(out, pen, name, r);
+    // The shelf alone, where the codes to search under are refused: encode answers.
+    fn put_shelf_alone(self, out: &mut Out<'_>, listed: RefusedName<'_>) {
+        let mut room = [0; CODES_ROOM];
+        match coded(self.plate, listed.name, Codes::First, &mut room) {
+            Err(refused) => put_refused(out, refused),
+            Ok(code) => {
+                put_shelf(out, code);
+                put_refused(out, listed);
+            }
+        }
     }
-    let n = codes_length(r.count, &codes);
-    let pen = put_front(out, pen, name, way.named);
-    let pen = put(out, pen, &codes[..n]);
-    put(out, pen, b"\n")
-}
 
-fn put_behind(out: &mut [u8], pen: Pen, number: u64) -> Pen {
-    let pen = put(out, pen, b" (");
-    let pen = put_number(out, pen, number);
-    put(out, pen, b")\n")
-}
-
-// Words of a refusal within an answer.
-fn put_refused(out: &mut [u8], pen: Pen, name: &[u8], r: DmCoded) -> Pen {
-    let pen = put(out, pen, b"refused, ");
-    let pen = name_words(out, pen, r.number, name, r.place as usize);
-    let pen = put_behind(out, pen, r.number);
-    let pen = put_place(out, pen, name, r);
-    with_status(pen, REFUSED)
-}
-
-fn put_shelf(out: &mut [u8], pen: Pen, codes: &[u8]) -> Pen {
-    let n = codes_length(1, codes);
-    let pen = put(out, pen, b"shelf ");
-    put(out, pen, &codes[..n])
-}
-
-// The shelf alone, where the codes to search under are refused: encode answers.
-fn put_shelf_alone(out: &mut [u8], pen: Pen, plate: &[u8], name: &[u8], listed: DmCoded) -> Pen {
-    let mut codes = codes_room();
-    let r = dm_encode(plate, name, &mut codes);
-    if r.number != 0 {
-        return put_refused(out, pen, name, r);
+    // The shelf and the codes to search under.
+    fn desk_line(self, out: &mut Out<'_>, name: &[u8]) {
+        out.say(Name(name));
+        out.put(b": ");
+        let mut room = [0; CODES_ROOM];
+        match coded(self.plate, name, Codes::All, &mut room) {
+            Err(refused) if refused.refusal == NameRefusal::Branches => {
+                self.put_shelf_alone(out, refused)
+            }
+            Err(refused) => put_refused(out, refused),
+            Ok(codes) => {
+                put_shelf(out, codes);
+                out.put(codes);
+                out.put(b"\n");
+            }
+        }
     }
-    let pen = put_shelf(out, pen, &codes);
-    let pen = put(out, pen, b", search ");
-    put_refused(out, pen, name, listed)
-}
 
-fn put_both(out: &mut [u8], pen: Pen, codes: &[u8], count: u64) -> Pen {
-    let n = codes_length(count, codes);
-    let pen = put_shelf(out, pen, codes);
-    let pen = put(out, pen, b", search ");
-    let pen = put(out, pen, &codes[..n]);
-    put(out, pen, b"\n")
-}
-
-// The shelf and the codes to search under.
-fn desk_line(out: &mut [u8], pen: Pen, plate: &[u8], name: &[u8]) -> Pen {
-    let pen = put_name(out, pen, name);
-    let pen = put(out, pen, b": ");
-    let mut codes = codes_room();
-    let r = dm_list(plate, name, &mut codes);
-    if r.number == BRANCHES {
-        return put_shelf_alone(out, pen, plate, name, r);
+    pub fn answer(self, out: &mut Out<'_>, name: &[u8]) {
+        match self.way {
+            Way::List { codes, named } => self.list_line(out, name, codes, named),
+            Way::Desk => self.desk_line(out, name),
+        }
     }
-    if r.number != 0 {
-        return put_refused(out, pen, name, r);
-    }
-    put_both(out, pen, &codes, r.count)
-}
-
-pub fn answer(out: &mut [u8], pen: Pen, plate: &[u8], name: &[u8], way: Way) -> Pen {
-    if way.shelf {
-        return desk_line(out, pen, plate, name);
-    }
-    list_line(out, pen, plate, name, way)
 }

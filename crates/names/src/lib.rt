@@ -4,11 +4,3 @@
 pub mod given; // given.rt: the plate that is given
 pub mod answer; // answer.rt: one name
 pub mod lines; // lines.rt: names a line each
-
-// How a name is answered: by all its codes or the first; with the name in front; by shelf and search codes, as the desk does.
-#[derive(Clone, Copy)]
-pub struct Way {
-    pub all: bool,
-    pub named: bool,
-    pub shelf: bool,
-}

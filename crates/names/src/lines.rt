@@ -1,241 +1,213 @@
-// Names a line each. What is answered is written where the buffer is full and before each read, since the input may pause there.
-ghost use Rattle.std.specs.Prelude.{◌≡◌, length};
+// Names a line each, and the answers on them. What is answered is written where the room is full and before each read, since the input may pause there.
+use super::answer::{Answering, Way};
+use files::path::FilePath;
+use files::read::Source;
+use front::out::Out;
+use front::status::Status;
 
-use super::Way;
-use super::answer::answer;
-use files::read::{Source, read_once};
-use files::tell::tell_path;
-use front::out::{FAULT, Pen, flush, put, with_status};
-use front::rooms::{begins, byte, part};
+// A name has 256 bytes at most, a byte order mark 3, a CR 1. One byte more tells a longer line; what follows is not looked at, since the line is refused
+// whatever it is.
+const LINE_MOST: usize = 261;
 
-// A name has 256 bytes at most, a byte order mark 3, a CR 1. One byte more tells a longer line; what follows is not kept, since the line is refused whatever it is.
-fn line_room() -> [u8; 261]
-    ensures { 261 ≡ length result }
-{
-    [0; 261]
+// The byte order mark that some programs put before the first line.
+const MARK: &[u8] = b"\xEF\xBB\xBF";
+
+// What is read stands in the chunk: the line that was taken last, and behind it, up to the end, what is not taken yet.
+#[derive(Drop)]
+pub struct Lines<'a> {
+    path: FilePath<'a>,
+    source: Source,
+    chunk: &'a mut [u8],
+    start: usize,
+    stop: usize,
+    at: usize,
+    end: usize,
+    count: u64,
+    is_end: bool,
 }
 
-// What is kept of a line that is not at its end yet, and whether it is the first.
-#[derive(Clone, Copy)]
-struct Run {
-    kept: usize,
-    is_first: bool,
-    pen: Pen,
-}
-
-// A turn's end: what goes on, and whether there may be more input.
-#[derive(Clone, Copy)]
-struct Turn {
-    run: Run,
-    more: bool,
-}
-
-// The length without the CR that some systems put before a newline.
-pub fn without_cr(line: &[u8]) -> usize {
-    let n = line.len();
-    if n == 0 {
-        return 0;
+impl<'a> Lines<'a> {
+    // The path is for the words where the source cannot be read.
+    pub fn new(path: FilePath<'a>, source: Source, chunk: &'a mut [u8]) -> Lines<'a> {
+        Lines {
+            path,
+            source,
+            chunk,
+            start: 0,
+            stop: 0,
+            at: 0,
+            end: 0,
+            count: 0,
+            is_end: false,
+        }
     }
-    if line[n - 1] == b'\r' {
-        return n - 1;
-    }
-    n
-}
 
-// Where the name begins: behind the byte order mark that some programs put before the first line.
-pub fn name_start(line: &[u8], is_first: bool) -> usize {
-    if is_first && begins(line, b"\xEF\xBB\xBF") {
-        return 3;
+    // The line up to a place.
+    fn take_to(&mut self, stop: usize, behind: usize) {
+        self.start = self.at;
+        self.stop = stop;
+        self.at = behind;
+        self.count = self.count.wrapping_add(1);
     }
-    0
-}
 
-fn is_blank_byte(b: u8) -> bool {
-    match b {
-        b' ' | b'\t'..=b'\r' => true,
-        _ => false,
+    // Takes the next line that was read to its newline, if there is one.
+    pub fn take(&mut self) -> bool {
+        let (at, end) = (self.at, self.end);
+        let read = self.chunk.get(at..end).unwrap_or_default();
+        let Some(n) = read.iter().position(|b| *b == b'\n') else {
+            return false;
+        };
+        let stop = at.wrapping_add(n);
+        self.take_to(stop, stop.wrapping_add(1));
+        true
     }
-}
 
-fn is_blank(line: &[u8]) -> bool {
-    for i in 0..line.len() {
-        if !is_blank_byte(line[i]) {
+    // Takes all lines that were read to their newlines, if there are some.
+    pub fn take_all(&mut self) -> bool {
+        let (at, end) = (self.at, self.end);
+        let read = self.chunk.get(at..end).unwrap_or_default();
+        let Some(n) = read.iter().rposition(|b| *b == b'\n') else {
+            return false;
+        };
+        let stop = at.wrapping_add(n).wrapping_add(1);
+        self.take_to(stop, stop);
+        true
+    }
+
+    // Takes a last line that has no newline, if there is one.
+    pub fn take_last(&mut self) -> bool {
+        let end = self.end;
+        if end <= self.at {
             return false;
         }
+        self.take_to(end, end);
+        true
     }
-    true
-}
 
-// The desk passes over a line without a name.
-fn answer_name(out: &mut [u8], pen: Pen, plate: &[u8], name: &[u8], way: Way) -> Pen {
-    if way.shelf && is_blank(name) {
-        return pen;
-    }
-    answer(out, pen, plate, name, way)
-}
-
-fn answer_line(
-    out: &mut [u8],
-    pen: Pen,
-    plate: &[u8],
-    line: &[u8],
-    is_first: bool,
-    way: Way,
-) -> Pen {
-    let end = without_cr(line);
-    let start = name_start(line, is_first);
-    answer_name(out, pen, plate, part(line, start, end), way)
-}
-
-// One byte of a line more.
-fn take_byte(out: &mut [u8], run: Run, plate: &[u8], line: &mut [u8], b: u8, way: Way) -> Run {
-    let n = run.kept;
-    let pen = run.pen;
-    if b == b'\n' {
-        let pen = answer_line(out, pen, plate, part(line, 0, n), run.is_first, way);
-        return Run {
-            kept: 0,
-            is_first: false,
-            pen: pen,
-        };
-    }
-    if line.len() <= n {
-        return run;
-    }
-    line[n] = b;
-    Run {
-        kept: n + 1,
-        is_first: run.is_first,
-        pen: pen,
-    }
-}
-
-fn take_bytes(
-    out: &mut [u8],
-    run: Run,
-    plate: &[u8],
-    line: &mut [u8],
-    bytes: &[u8],
-    way: Way,
-) -> Run {
-    let mut r = run;
-    for i in 0..bytes.len() {
-        r = take_byte(out, r, plate, line, bytes[i], way);
-    }
-    r
-}
-
-fn stopped(run: Run, pen: Pen) -> Turn {
-    Turn {
-        run: Run {
-            kept: run.kept,
-            is_first: run.is_first,
-            pen: pen,
-        },
-        more: false,
-    }
-}
-
-fn put_prompt(out: &mut [u8], pen: Pen, prompt: bool) -> Pen {
-    if prompt {
-        return put(out, pen, b"name: ");
-    }
-    pen
-}
-
-// Reads once, and answers the lines that end in what came.
-fn read_some(
-    out: &mut [u8],
-    run: Run,
-    plate: &[u8],
-    line: &mut [u8],
-    chunk: &mut [u8],
-    from: Input<'_>,
-    path: &[u8],
-    way: Way,
-) -> Turn {
-    let pen = run.pen;
-    let pen = put_prompt(out, pen, from.prompt);
-    let pen = flush(out, pen);
-    if pen.broken {
-        return stopped(run, pen);
-    }
-    match read_once(from.source, chunk) {
-        Err(error) => {
-            tell_path(&pen.rt, pen.who, path, error);
-            stopped(run, with_status(pen, FAULT))
+    // Moves the front of the line that is not whole to that of the chunk; how many bytes it has.
+    fn move_front(&mut self) -> usize {
+        let (at, end) = (self.at, self.end);
+        let most = end.min(at.saturating_add(LINE_MOST));
+        if most <= at || self.chunk.len() < most {
+            return 0;
         }
-        Ok(0) => stopped(run, pen),
-        Ok(m) => {
-            let run = Run {
-                kept: run.kept,
-                is_first: run.is_first,
-                pen: pen,
-            };
-            let run = take_bytes(out, run, plate, line, part(chunk, 0, m), way);
-            Turn {
-                run: run,
-                more: true,
+        self.chunk.copy_within(at..most, 0);
+        most - at
+    }
+
+    // Whether the last read came to the end.
+    pub fn is_ended(&self) -> bool {
+        self.is_end
+    }
+
+    // Reads once; whether there was more. A terminal may give more behind an end.
+    pub fn read(&mut self) -> Result<bool, Status> {
+        let kept = self.move_front();
+        self.at = 0;
+        self.end = kept;
+        let room = self.chunk.get_mut(kept..).unwrap_or_default();
+        match self.source.read_once(room) {
+            Ok(n) => {
+                self.end = kept.wrapping_add(n);
+                self.is_end = n == 0;
+                Ok(n != 0)
+            }
+            Err(error) => {
+                self.is_end = true;
+                Err(self.path.fault(error))
             }
         }
     }
-}
 
-// Where names are read from, and whether a prompt is shown.
-#[derive(Clone, Copy)]
-pub struct Input<'a> {
-    pub source: &'a Source,
-    pub prompt: bool,
-}
-
-// Reads to the end. Nothing says that the input ends, so the turns are counted up to a number that no run reaches.
-fn read_lines(
-    out: &mut [u8],
-    run: Run,
-    plate: &[u8],
-    line: &mut [u8],
-    chunk: &mut [u8],
-    from: Input<'_>,
-    path: &[u8],
-    way: Way,
-) -> Run {
-    let mut r = run;
-    for _ in 0..u64::MAX {
-        let turn = read_some(out, r, plate, line, chunk, from, path, way);
-        r = turn.run;
-        if !turn.more {
-            return r;
+    fn without_mark<'b>(&self, line: &'b [u8]) -> &'b [u8] {
+        match line.strip_prefix(MARK) {
+            Some(rest) if self.count == 1 => rest,
+            _ => line,
         }
     }
-    r
-}
 
-// What is left is a last line that has no newline.
-fn answer_last(out: &mut [u8], run: Run, plate: &[u8], line: &[u8], way: Way) -> Pen {
-    let pen = run.pen;
-    let n = run.kept;
-    if n == 0 || pen.status == FAULT {
-        return pen;
+    // What was taken last, without the mark before the first line.
+    pub fn taken(&self) -> &[u8] {
+        self.without_mark(self.chunk.get(self.start..self.stop).unwrap_or_default())
     }
-    answer_line(out, pen, plate, part(line, 0, n), run.is_first, way)
+
+    // The name of the line that was taken last, without the CR that some systems put before a newline.
+    pub fn name(&self) -> &[u8] {
+        let line = self.chunk.get(self.start..self.stop).unwrap_or_default();
+        let name = self.without_mark(line.get(..LINE_MOST).unwrap_or(line));
+        name.strip_suffix(b"\r").unwrap_or(name)
+    }
+
+    // The name of the next line, where there is one. Nothing says that the input ends, so the turns are counted up to a number that no run reaches.
+    pub fn next(&mut self) -> Result<Option<&[u8]>, Status> {
+        for _ in 0..u64::MAX {
+            if self.take() {
+                return Ok(Some(self.name()));
+            }
+            if !self.read()? {
+                break;
+            }
+        }
+        if self.take_last() {
+            return Ok(Some(self.name()));
+        }
+        Ok(None)
+    }
 }
 
-// Answers all names of an input, read into the chunk. The path is for the words where it cannot be read.
-pub fn answer_all(
-    out: &mut [u8],
-    pen: Pen,
-    plate: &[u8],
-    chunk: &mut [u8],
-    from: Input<'_>,
-    path: &[u8],
-    way: Way,
-) -> Pen {
-    let mut line = line_room();
-    let run = Run {
-        kept: 0,
-        is_first: true,
-        pen: pen,
-    };
-    let run = read_lines(out, run, plate, &mut line, chunk, from, path, way);
-    answer_last(out, run, plate, &line, way)
+fn is_blank(name: &[u8]) -> bool {
+    name.iter().all(|b| matches!(b, b' ' | b'\t'..=b'\r'))
+}
+
+// What is shown before a read.
+fn put_prompt(out: &mut Out<'_>, prompts: bool) {
+    if prompts {
+        out.put(b"name: ");
+    }
+}
+
+// Reads once, behind what was answered; whether there was more.
+fn read_more(out: &mut Out<'_>, lines: &mut Lines<'_>, prompts: bool) -> Result<bool, Status> {
+    put_prompt(out, prompts);
+    out.flush();
+    if out.is_broken() {
+        return Err(Status::Fault);
+    }
+    lines.read()
+}
+
+impl Answering<'_> {
+    // The desk passes over a line without a name.
+    fn answer_line(self, out: &mut Out<'_>, name: &[u8]) {
+        if self.way != Way::Desk || !is_blank(name) {
+            self.answer(out, name);
+        }
+    }
+
+    // Answers all lines, or as many as can be read and answered. Nothing says that the input ends, so the turns are counted up to a number that no run reaches.
+    fn answer_lines(
+        self,
+        out: &mut Out<'_>,
+        lines: &mut Lines<'_>,
+        prompts: bool,
+    ) -> Result<(), Status> {
+        for _ in 0..u64::MAX {
+            if lines.take() {
+                self.answer_line(out, lines.name());
+            } else if !read_more(out, lines, prompts)? {
+                break;
+            }
+        }
+        if lines.take_last() {
+            self.answer_line(out, lines.name());
+        }
+        Ok(())
+    }
+
+    // Answers all names of an input; it is asked for each on a terminal.
+    pub fn answer_all(self, out: &mut Out<'_>, lines: &mut Lines<'_>, prompts: bool) {
+        if let Err(status) = self.answer_lines(out, lines, prompts) {
+            out.worsen(status);
+        }
+    }
 }

@@ -8,109 +8,87 @@
 mod answer; // answer.rt: one call, and its answer compared
 
 use answer::is_answered;
-use std::num::wrapping_add_usize;
+use std::fmt;
 use std::rt::Files;
-use trial::case::bytes_of;
-use trial::lines::{end_of, letter_of, next_line};
-use trial::say::{fault, labelled, word};
+use trial::case::Case;
+use trial::file::read;
+use trial::say::fault;
 
-// What the lines of a file have come to: the plate's length, more than its buffer has where its line has another form; how many answers, and how many lines differ.
-#[derive(Clone, Copy)]
+// What the lines of a file have come to: how many answers, and how many lines differ.
+#[derive(Clone, Copy, Default)]
 struct Tally {
-    plate: usize,
     answers: usize,
     differ: usize,
 }
 
-fn differing(tally: Tally) -> Tally {
-    Tally {
-        plate: tally.plate,
-        answers: tally.answers,
-        differ: wrapping_add_usize(tally.differ, 1),
+impl Tally {
+    fn add_answer(&mut self, is_right: bool) {
+        self.answers = self.answers.wrapping_add(1);
+        if !is_right {
+            self.add_differing();
+        }
+    }
+
+    fn add_differing(&mut self) {
+        self.differ = self.differ.wrapping_add(1);
     }
 }
 
-fn with_plate(tally: Tally, n: usize) -> Tally {
-    Tally {
-        plate: n,
-        answers: tally.answers,
-        differ: tally.differ,
+impl fmt::Display for Tally {
+    fn fmt<W: fmt::Write>(&self, f: &mut fmt::Formatter<W>) -> fmt::Result {
+        write!(f, "{} answers, {} differ", self.answers, self.differ)
     }
 }
 
-fn with_answer(tally: Tally) -> Tally {
-    Tally {
-        plate: tally.plate,
-        answers: wrapping_add_usize(tally.answers, 1),
-        differ: tally.differ,
+// The plate of the last line that has one; none, where that line has another form.
+#[derive(Drop)]
+struct Plate<'a> {
+    room: &'a mut [u8],
+    length: Option<usize>,
+}
+
+impl Plate<'_> {
+    fn take(&mut self, case: Case) {
+        self.length = case.bytes(self.room).map(|bytes| bytes.len());
+    }
+
+    fn bytes(&self) -> Option<&[u8]> {
+        self.room.get(..self.length?)
     }
 }
 
-fn take_plate(line: &[u8], plate: &mut [u8], tally: Tally) -> Tally {
-    let n = bytes_of(line, plate);
-    if plate.len() < n {
-        fault(line);
-        return differing(with_plate(tally, n));
-    }
-    with_plate(tally, n)
-}
-
-// A line's call with the first n bytes of a buffer as the plate, if it has so many.
-fn is_answered_by(line: &[u8], plate: &[u8], n: usize) -> bool {
-    if plate.len() < n {
-        fault(line);
-        return false;
-    }
-    is_answered(line, &plate[0..n])
-}
-
-fn take_answer(line: &[u8], plate: &[u8], tally: Tally) -> Tally {
-    if is_answered_by(line, plate, tally.plate) {
-        return with_answer(tally);
-    }
-    differing(with_answer(tally))
-}
-
-fn run_line(line: &[u8], plate: &mut [u8], tally: Tally) -> Tally {
-    match letter_of(line) {
-        b'#' => tally,
-        b'p' => take_plate(line, plate, tally),
-        _ => take_answer(line, plate, tally),
-    }
-}
-
-fn run_lines(text: &[u8], plate: &mut [u8]) -> Tally {
-    let mut tally = Tally {
-        plate: 0,
-        answers: 0,
-        differ: 0,
+fn run_lines(rt: &impl Print, text: &[u8]) -> Tally {
+    let mut tally = Tally::default();
+    let mut plate = Plate {
+        room: &mut [0; 65536],
+        length: Some(0),
     };
-    let mut at: usize = 0;
-    while at < text.len() {
-        let end = end_of(text, at, b'\n');
-        tally = run_line(&text[at..end], plate, tally);
-        at = next_line(text, at);
+    for line in text.split_inclusive(|byte| *byte == b'\n') {
+        let case = Case::new(line);
+        match case.letter() {
+            Some(b'#') => {}
+            Some(b'p') => {
+                plate.take(case);
+                if plate.length.is_none() {
+                    fault(rt, case.line);
+                    tally.add_differing();
+                }
+            }
+            _ => tally.add_answer(is_answered(rt, case, plate.bytes())),
+        }
     }
     tally
 }
 
-fn show_tally(path: &[u8], tally: Tally) {
-    word(path);
-    labelled(b": ", tally.answers);
-    labelled(b" answers, ", tally.differ);
-    word(b" differ\n");
-}
-
-fn run_file(rt: &impl Files, path: &[u8]) {
-    let mut text = io::large_buffer();
-    let n = trial::file::read(rt, path, &mut text);
-    let mut plate = io::large_buffer();
-    show_tally(path, run_lines(&text[0..n], &mut plate));
+fn run_file(rt: &(impl Files + Print + Eprint), path: &str) {
+    let mut room = [0; 65536];
+    let tally = run_lines(rt, read(rt, path, &mut room));
+    // What cannot be written is missed by who compares what was.
+    let _ = println!(rt; "{path}: {tally}");
 }
 
 fn main(rt: HostRuntime) {
-    run_file(&rt, b"names.txt");
-    run_file(&rt, b"vectors-1.txt");
-    run_file(&rt, b"vectors-2.txt");
-    run_file(&rt, b"control.txt");
+    for path in ["names.txt", "vectors-1.txt", "vectors-2.txt", "control.txt"] {
+        run_file(&rt, path);
+    }
 }

@@ -1,6 +1,8 @@
 -- A pattern's characters: its bytes at a bit place, the character in front, and a text without a zero byte, one character at a time. A zero byte stands
 -- only in U+0000, so that both tests are one of each character. Assumes nothing.
-use Rattle.std.proofs.Common.{◌≡◌, ℕ, zero, suc, ◌+◌, ◌-◌, ◌*◌, ◌/◌, ◌%◌, ◌<◌, ◌≤◌, Bool, true, false, cond, ◌&&◌, ltb, leb, List, [], ◌∷◌, length, get_or, take, drop, sym, refl, ap, ◌∙◌, subst, ap₂, arith, take-append-drop, lt-ltb, le-leb, leb-false, leb-true}
+use Rattle.std.specs.Bool.{then_some}
+use Rattle.std.proofs.lemmas.Option.{same_Some, none-some}
+use Rattle.std.proofs.Common.{Option, Some, None, ◌≡◌, ℕ, zero, suc, ◌+◌, ◌-◌, ◌*◌, ◌/◌, ◌%◌, ◌<◌, ◌≤◌, Bool, true, false, ◌&&◌, ltb, leb, List, [], ◌∷◌, length, get_or, take, drop, sym, refl, ap, ◌∙◌, subst, ap₂, arith, take-append-drop, lt-ltb, le-leb, leb-false, leb-true}
 use mathlib.Core.Bool.{false≢true}
 use lib.ListN.{get_or-eq_default}
 use borrow.Author.Tests.{lt-leb}
@@ -16,35 +18,30 @@ use Rattle.chars.proofs.Places.{numbers}
 use Rattle.plate.specs.Bits.{number_at}
 use Rattle.plate.specs.Plate.{most_bytes, nonzero_byte, good_pattern}
 use Rattle.plate.specs.Read.{many}
-use Rattle.plate.specs.Answers.{bytes_at, front_of, FrontTo, good_text, code_if, first_of}
-use Rattle.plate.specs.declared.Front as Front
-use Rattle.plate.specs.declared.Front.TheVariants as FrontIs
-use Rattle.plate.specs.declared.First.TheVariants as FirstIs
+use Rattle.plate.specs.Answers.{bytes_at, front_of, FrontTo, good_text, first_of}
+use Rattle.plate.specs.declared.Letter.{Letter}
 use Rattle.plate.proofs.Listed.{length_many, many_cons, get_d_many, drop_many, past_add, between_in, between_none, between_over}
 
 -- ---- an answer taken apart
 
-abbrev code : Front.Front → ℕ
-code (FrontIs.Is c w) = c
-code FrontIs.Not = 0
+-- What is told if a test holds was told, so it held; and where nothing was told, it did not.
+pub told : {A : Type 0} {r : Option A} (t : Bool) (x y : A) → r ≡ then_some t x → r ≡ Some y → (t ≡ true) × (x ≡ y)
+told true x y e f = (refl, same_Some x y (sym e ∙ f))
+told false x y e f = absurd (none-some y (sym e ∙ f))
 
-abbrev width : Front.Front → ℕ
-width (FrontIs.Is c w) = w
-width FrontIs.Not = 0
+pub untold : {A : Type 0} {r : Option A} (t : Bool) (x : A) → r ≡ then_some t x → r ≡ None → t ≡ false
+untold true x e f = absurd (none-some x (sym f ∙ e))
+untold false x e f = refl
 
-abbrev found : Front.Front → Bool
-found (FrontIs.Is c w) = true
-found FrontIs.Not = false
+abbrev pub letter : ℕ → ℕ → Letter
+letter c w = record { code = c; width = w }
 
 -- A character was found: it stands in front, and is not U+0000.
-pub front_is : (x : Char) (c w : ℕ) → front_of x ≡ FrontIs.Is c w → (x ≡ One c w) × (ltb 0 c ≡ true)
-front_is (One d v) c w e = go (ltb 0 d) refl e
-  where
-    go : (t : Bool) → ltb 0 d ≡ t → cond t (FrontIs.Is d v) FrontIs.Not ≡ FrontIs.Is c w → (One d v ≡ One c w) × (ltb 0 c ≡ true)
-    go true h f = ((λ i. One (code (f i)) (width (f i))), ap (ltb 0) (sym (ap code f)) ∙ h)
-    go false h f = absurd (false≢true (ap found f))
-front_is Bad c w e = absurd (false≢true (ap found e))
-front_is End c w e = absurd (false≢true (ap found e))
+pub front_is : (x : Char) (l : Letter) → front_of x ≡ Some l → (x ≡ One l.code l.width) × (ltb 0 l.code ≡ true)
+front_is (One d v) l e =
+    let t = told (ltb 0 d) (letter d v) l refl e in (ap (λ (m : Letter). One m.code m.width) t.1, ap (λ (m : Letter). ltb 0 m.code) (sym t.1) ∙ t.0)
+front_is Bad l e = absurd (none-some l e)
+front_is End l e = absurd (none-some l e)
 
 -- ---- bytes at a place
 
@@ -79,16 +76,13 @@ module _ (s : List ℕ) (n at : ℕ) where
         ∙ ap (λ (b : ℕ). char_of (b ∷ many (λ p. number_at s p 8) (λ p. p + 8) (n - 1) (at + 8))) (sym e)
         ∙ simp (le-leb v 0x7F i)
 
-    pub ascii_zero : (v : ℕ) → v ≡ number_at s at 8 → v ≡ 0 → FrontIs.Not ≡ front_of (char_of (bytes_at s n at))
-    ascii_zero v e z = sym (ap front_of (ascii v e (omega arith)) ∙ ap (λ (c : ℕ). front_of (One c 1)) z)
-
-    pub ascii_is : (v : ℕ) → v ≡ number_at s at 8 → v ≤ 0x7F → (v ≡ 0 → ⊥) → FrontIs.Is v 1 ≡ front_of (char_of (bytes_at s n at))
+    pub ascii_is : (v : ℕ) → v ≡ number_at s at 8 → v ≤ 0x7F → (v ≡ 0 → ⊥) → Some (letter v 1) ≡ front_of (char_of (bytes_at s n at))
     ascii_is v e i z =
-        sym (ap front_of (ascii v e i) ∙ ap (λ (t : Bool). cond t (FrontIs.Is v 1) FrontIs.Not) (lt-ltb 0 v (omega arith)))
+        sym (ap front_of (ascii v e i) ∙ ap (λ (t : Bool). then_some t (letter v 1)) (lt-ltb 0 v (omega arith)))
 
     -- Two bytes are a character, from U+0080 to U+07FF.
     pub double_is : (a b : ℕ) → a ≡ number_at s at 8 → b ≡ number_at s (at + 8) 8 → 2 ≤ n → 0xC2 ≤ a → a ≤ 0xDF → 0x80 ≤ b → b ≤ 0xBF
-        → FrontIs.Is (a % 32 * 64 + b % 64) 2 ≡ front_of (char_of (bytes_at s n at))
+        → Some (letter (a % 32 * 64 + b % 64) 2) ≡ front_of (char_of (bytes_at s n at))
     double_is a b e f m a-low a-high b-low b-high =
         let more : 0 < n - 1 = omega (arith, m) in
         let behind = many (λ p. number_at s p 8) (λ p. p + 8) (n - 1 - 1) (at + 8 + 8) in
@@ -98,38 +92,25 @@ module _ (s : List ℕ) (n at : ℕ) where
         ∙ ap (λ (l : List ℕ). number_at s at 8 ∷ l) (many_cons (λ p. number_at s p 8) (λ p. p + 8) (n - 1) (at + 8) more))
         ∙ ap₂ (λ (x y : ℕ). char_of (x ∷ y ∷ behind)) (sym e) (sym f)
         ∙ simp (lt-leb a 0x7F (omega (arith, a-low)), is_between 0xC0 0xDF a (omega (arith, a-low)) a-high, is_between 0x80 0xBF b b-low b-high, le-leb 0x80 _ large) in
-        sym (ap front_of is ∙ ap (λ (t : Bool). cond t (FrontIs.Is (a % 32 * 64 + b % 64) 2) FrontIs.Not) (lt-ltb 0 (a % 32 * 64 + b % 64) (omega (arith, large))))
-
-    -- The whole decoder's answer, as a front.
-    module _ (r : Char) (e : r ≡ char_of (bytes_at s n at)) where
-      pub decoded_zero : (c w : ℕ) → r ≡ One c w → c ≡ 0 → FrontIs.Not ≡ front_of (char_of (bytes_at s n at))
-      decoded_zero c w f z = sym (ap front_of (sym e ∙ f) ∙ ap (λ (d : ℕ). front_of (One d w)) z)
-
-      pub decoded_is : (c w : ℕ) → r ≡ One c w → (c ≡ 0 → ⊥) → FrontIs.Is c w ≡ front_of (char_of (bytes_at s n at))
-      decoded_is c w f z = sym (ap front_of (sym e ∙ f) ∙ ap (λ (t : Bool). cond t (FrontIs.Is c w) FrontIs.Not) (lt-ltb 0 c (omega arith)))
-
-      pub decoded_bad : r ≡ Bad → FrontIs.Not ≡ front_of (char_of (bytes_at s n at))
-      decoded_bad f = sym (ap front_of (sym e ∙ f))
-
-      pub decoded_end : r ≡ End → FrontIs.Not ≡ front_of (char_of (bytes_at s n at))
-      decoded_end f = sym (ap front_of (sym e ∙ f))
+        sym (ap front_of is ∙ ap (λ (t : Bool). then_some t (letter (a % 32 * 64 + b % 64) 2)) (lt-ltb 0 (a % 32 * 64 + b % 64) (omega (arith, large))))
 
   -- It lies within the bytes.
-  pub front_within : (r : Front.Front) → r ≡ front_of (char_of (bytes_at s n at)) → FrontTo r n
-  front_within r e = subst (λ (x : Front.Front). FrontTo x n) (sym e) (go (char_of (bytes_at s n at)) refl)
+  pub front_within : (r : Option Letter) → r ≡ front_of (char_of (bytes_at s n at)) → FrontTo r n
+  front_within r e = subst (λ (x : Option Letter). FrontTo x n) (sym e) (go (char_of (bytes_at s n at)) refl)
     where
       go : (x : Char) → char_of (bytes_at s n at) ≡ x → FrontTo (front_of x) n
-      go (One c w) f =
-          by_test (λ (x : Front.Front). FrontTo x n) (ltb 0 c) (FrontIs.Is c w) FrontIs.Not
-          (λ g.
-          let d = decoded_one (bytes_at s n at) c w f in
-          let l = bytes_length in
-          let m = bytes_count c in
-          let u = d.2 in
-          let v = d.3 in (omega arith, omega arith))
-          (λ g. omega arith)
-      go Bad f = omega arith
-      go End f = omega arith
+      go (One c w) f = within (ltb 0 c)
+        where
+          within : (t : Bool) → FrontTo (then_some t (letter c w)) n
+          within true =
+              let d = decoded_one (bytes_at s n at) c w f in
+              let l = bytes_length in
+              let m = bytes_count c in
+              let u = d.2 in
+              let v = d.3 in (omega arith, omega arith)
+          within false = tt
+      go Bad f = tt
+      go End f = tt
 
 -- ---- texts without a zero byte
 
@@ -170,15 +151,15 @@ not_text : (x : ℕ) (xs : List ℕ) → is_one (char_of (x ∷ xs)) ≡ false �
 unfolding text_from
 not_text x xs e = and_right_false (every nonzero_byte (x ∷ xs)) _ (and_left_false (is_one (char_of (x ∷ xs))) _ e)
 
-pub not_front : (p : List ℕ) → (length p ≡ 0 → ⊥) → front_of (char_of p) ≡ FrontIs.Not → good_text p ≡ false
+pub not_front : (p : List ℕ) → (length p ≡ 0 → ⊥) → front_of (char_of p) ≡ None → good_text p ≡ false
 not_front [] h e = absurd (h refl)
 not_front (x ∷ xs) h e = go (char_of (x ∷ xs)) refl e
   where
-    zero_front : (c w : ℕ) → char_of (x ∷ xs) ≡ One c w → (t : Bool) → ltb 0 c ≡ t → cond t (FrontIs.Is c w) FrontIs.Not ≡ FrontIs.Not → good_text (x ∷ xs) ≡ false
-    zero_front c w f true g k = absurd (false≢true (sym (ap found k)))
+    zero_front : (c w : ℕ) → char_of (x ∷ xs) ≡ One c w → (t : Bool) → ltb 0 c ≡ t → then_some t (letter c w) ≡ None → good_text (x ∷ xs) ≡ false
+    zero_front c w f true g k = absurd (none-some (letter c w) (sym k))
     zero_front c w f false g k = front_text (x ∷ xs) c w f ∙ and_left_false (ltb 0 c) (good_text (drop w (x ∷ xs))) g
 
-    go : (r : Char) → char_of (x ∷ xs) ≡ r → front_of r ≡ FrontIs.Not → good_text (x ∷ xs) ≡ false
+    go : (r : Char) → char_of (x ∷ xs) ≡ r → front_of r ≡ None → good_text (x ∷ xs) ≡ false
     go (One c w) f k = zero_front c w f (ltb 0 c) refl k
     go Bad f k = not_text x xs (ap is_one f)
     go End f k = not_text x xs (ap is_one f)
@@ -203,39 +184,40 @@ unfolding text_from
 text_end s zero at h = refl
 text_end s (suc n) at h = absurd (omega arith)
 
-module _ (s : List ℕ) (n at : ℕ) (h : 0 < n) (r : Front.Front) (e : r ≡ front_of (char_of (bytes_at s n at))) where
-  pub text_stop : r ≡ FrontIs.Not → good_text (bytes_at s n at) ≡ false
+module _ (s : List ℕ) (n at : ℕ) (h : 0 < n) (r : Option Letter) (e : r ≡ front_of (char_of (bytes_at s n at))) where
+  pub text_stop : r ≡ None → good_text (bytes_at s n at) ≡ false
   text_stop f = not_front (bytes_at s n at) (λ z. let l = bytes_length s n at in omega arith) (sym e ∙ f)
 
-  pub text_turn : (c w : ℕ) → r ≡ FrontIs.Is c w → good_text (bytes_at s (n - w) (at + 8 * w)) ≡ good_text (bytes_at s n at)
-  text_turn c w f =
-      let i = front_is (char_of (bytes_at s n at)) c w (sym e ∙ f) in
-      ap good_text (sym (bytes_drop s n at w))
-      ∙ sym (front_text (bytes_at s n at) c w i.0 ∙ and_holds (ltb 0 c) (good_text (drop w (bytes_at s n at))) i.1)
+  pub text_turn : (l : Letter) → r ≡ Some l → good_text (bytes_at s (n - l.width) (at + 8 * l.width)) ≡ good_text (bytes_at s n at)
+  text_turn l f =
+      let i = front_is (char_of (bytes_at s n at)) l (sym e ∙ f) in
+      ap good_text (sym (bytes_drop s n at l.width))
+      ∙ sym (front_text (bytes_at s n at) l.code l.width i.0 ∙ and_holds (ltb 0 l.code) (good_text (drop l.width (bytes_at s n at))) i.1)
 
 -- ---- a pattern
 
 module _ (s : List ℕ) (n at : ℕ) where
-  first_out : between 1 most_bytes (length (bytes_at s n at)) ≡ false → FirstIs.None ≡ first_of (bytes_at s n at)
-  first_out h = sym (ap (λ (t : Bool). code_if t (code_of (char_of (bytes_at s n at)))) (and_left_false _ (good_text (bytes_at s n at)) h))
+  first_out : between 1 most_bytes (length (bytes_at s n at)) ≡ false → None ≡ first_of (bytes_at s n at)
+  first_out h = sym (ap (λ (t : Bool). then_some t (code_of (char_of (bytes_at s n at)))) (and_left_false _ (good_text (bytes_at s n at)) h))
 
-  pub first_none : n < 1 → FirstIs.None ≡ first_of (bytes_at s n at)
+  pub first_none : n < 1 → None ≡ first_of (bytes_at s n at)
   first_none h = first_out (between_none (λ p. number_at s p 8) (λ p. p + 8) n at most_bytes h)
 
-  pub first_over : most_bytes < n → FirstIs.None ≡ first_of (bytes_at s n at)
+  pub first_over : most_bytes < n → None ≡ first_of (bytes_at s n at)
   first_over h = first_out (between_over (λ p. number_at s p 8) (λ p. p + 8) n at most_bytes h)
 
-  module _ (h : 1 ≤ n) (k : n ≤ most_bytes) (r : Front.Front) (e : r ≡ front_of (char_of (bytes_at s n at))) where
+  module _ (h : 1 ≤ n) (k : n ≤ most_bytes) (r : Option Letter) (e : r ≡ front_of (char_of (bytes_at s n at))) where
     -- The count is right, so the text decides.
-    decides : (t : Bool) → good_text (bytes_at s n at) ≡ t → code_if t (code_of (char_of (bytes_at s n at))) ≡ first_of (bytes_at s n at)
+    decides : (t : Bool) → good_text (bytes_at s n at) ≡ t → then_some t (code_of (char_of (bytes_at s n at))) ≡ first_of (bytes_at s n at)
     decides t g =
-        ap (λ (b : Bool). code_if b (code_of (char_of (bytes_at s n at))))
+        ap (λ (b : Bool). then_some b (code_of (char_of (bytes_at s n at))))
         (sym (and_holds _ (good_text (bytes_at s n at)) (between_in (λ p. number_at s p 8) (λ p. p + 8) n at most_bytes h k) ∙ g))
 
-    pub first_bad : r ≡ FrontIs.Not → FirstIs.None ≡ first_of (bytes_at s n at)
+    pub first_bad : r ≡ None → None ≡ first_of (bytes_at s n at)
     first_bad f = decides false (text_stop s n at h r e f)
 
-    pub first_decided : (c w : ℕ) → r ≡ FrontIs.Is c w → (v : Bool) → v ≡ good_text (bytes_at s (n - w) (at + 8 * w)) → (b : Bool) → v ≡ b → code_if b c ≡ first_of (bytes_at s n at)
-    first_decided c w f v d b g =
-        ap (code_if b) (sym (ap code_of (front_is (char_of (bytes_at s n at)) c w (sym e ∙ f)).0))
-        ∙ decides b (sym (text_turn s n at h r e c w f) ∙ sym d ∙ g)
+    pub first_decided : (l : Letter) → r ≡ Some l → (v : Bool) → v ≡ good_text (bytes_at s (n - l.width) (at + 8 * l.width)) → (b : Bool) → v ≡ b
+        → then_some b l.code ≡ first_of (bytes_at s n at)
+    first_decided l f v d b g =
+        ap (then_some b) (sym (ap code_of (front_is (char_of (bytes_at s n at)) l (sym e ∙ f)).0))
+        ∙ decides b (sym (text_turn s n at h r e l f) ∙ sym d ∙ g)

@@ -1,6 +1,6 @@
 -- Rules in order, parted by a character: since first code points never fall, one rule below it tells that all before it are, and one that is not tells that
 -- none behind is. Parted by c and by the character behind it, what lies between is c's group. Assumes nothing.
-use Rattle.std.proofs.Common.{◌≡◌, ℕ, zero, suc, ◌+◌, ◌<◌, ◌≤◌, true, not, ◌&&◌, eqb, ltb, leb, List, [], ◌∷◌, length, get_or, take, drop, refl, ap, ◌∙◌, subst, ⊎_elim, le_trans, add-one, arith, drop_of_length-le, ltb-true, lt-ltb, eq-eqb, ne_eqb, eqb-true, le-leb, leb-true}
+use Rattle.std.proofs.Common.{◌≡◌, ℕ, zero, suc, ◌+◌, ◌<◌, ◌≤◌, true, not, ◌&&◌, eqb, ltb, leb, List, [], ◌∷◌, length, get_or, take, drop, refl, ap, ◌∙◌, ⊎_elim, le_trans, add-one, arith, ltb-true, lt-ltb, eq-eqb, ne_eqb, eqb-true, le-leb, leb-true}
 use lib.Seq.{slice}
 use Rattle.laws.specs.Lists.{every}
 use Rattle.laws.proofs.Tests.{and_true, both_true, or_true}
@@ -64,20 +64,6 @@ pub record Halving (rs : List Rule) (c low high : ℕ) : Type 0 where
   pub from : every (is_from c) (drop high rs) ≡ true
 
 module _ (rs : List Rule) (c : ℕ) where
-  pub halving_start : (n : ℕ) → n ≡ length rs → Halving rs c 0 n
-  halving_start n e = record {
-    rising = omega arith;
-    within = omega (arith, e);
-    below = refl;
-    from = ap (every (is_from c)) (drop_of_length-le rs {i = n} (omega (arith, e)));
-  }
-
-  pub halving_end : (low high : ℕ) → Halving rs c low high → high ≤ low → Parted rs c low
-  halving_end low high h e =
-      let up = h.rising in
-      let same : high ≡ low = omega arith in
-      record { within = le_trans up h.within; below = h.below; from = subst (λ (k : ℕ). every (is_from c) (drop k rs) ≡ true) same h.from }
-
   module _ (low high m : ℕ) (h : Halving rs c low high) (d : Rule) (o : ordered rs ≡ true) (l : m < high) where
     inside : m < length rs
     inside = let w = h.within in omega arith

@@ -15,3 +15,4 @@ pub mod Only
 pub mod Shapes
 pub mod Rising
 pub mod Masks
+pub mod Filled

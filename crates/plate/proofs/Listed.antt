@@ -1,6 +1,6 @@
 -- Things one behind the other, from a place on: their count, the first and those behind it, the last, the k-th, and the place behind them.
 -- Each is an induction on the count. Assumes nothing.
-use Rattle.std.proofs.Common.{◌≡◌, ℕ, zero, suc, ◌+◌, ◌-◌, ◌*◌, ◌<◌, ◌≤◌, Bool, true, false, leb, ◌⊎◌, List, [], ◌∷◌, ◌++◌, length, get_or, take, drop, sym, refl, ap, ◌∙◌, subst, ⊎_elim, mul-suc, arith, take_all, le-leb}
+use Rattle.std.proofs.Common.{◌≡◌, ℕ, zero, suc, ◌+◌, ◌-◌, ◌*◌, ◌<◌, ◌≤◌, Bool, true, false, leb, List, [], ◌∷◌, ◌++◌, length, get_or, take, drop, sym, refl, ap, ◌∙◌, mul-suc, arith, le-leb}
 use borrow.Author.Tests.{lt-leb}
 use Rattle.laws.specs.Lists.{every, between}
 use Rattle.laws.proofs.Tests.{and_true, and_left_false, is_between, below_between, above_between}
@@ -34,13 +34,6 @@ module _ {A : Type 0} (f : ℕ → A) (e : ℕ → ℕ) where
   take_many zero n at h = refl
   take_many (suc k) zero at h = absurd (omega arith)
   take_many (suc k) (suc n) at h = ap (λ (l : List A). f at ∷ l) (take_many k n (e at) (omega arith))
-
-  -- The first `most` of n are as many as the smaller of the two.
-  pub take_least : (most n k at : ℕ) → k ≤ n → k ≤ most → (k ≡ n) ⊎ (k ≡ most) → take most (many f e n at) ≡ many f e k at
-  take_least most n k at h g =
-      ⊎_elim
-      (λ i. take_all most (many f e n at) (subst (λ (m : ℕ). m ≤ most) (i ∙ sym (length_many n at)) g) ∙ ap (λ (m : ℕ). many f e m at) (sym i))
-      (λ i. ap (λ (m : ℕ). take m (many f e n at)) (sym i) ∙ take_many k n at h)
 
   pub every_at : (t : A → Bool) (n at k : ℕ) → k < n → every t (many f e n at) ≡ true → t (f (past e k at)) ≡ true
   every_at t zero at k h g = absurd (omega arith)

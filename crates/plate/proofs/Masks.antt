@@ -150,10 +150,9 @@ three_digits w few clear =
     let second = w * 2048 % 18446744073709551616 in
     let third = w * 4194304 % 18446744073709551616 in
     in_row 41 11 w 11 11 11 (omega arith) (omega arith)
-    (λ _ s at held. digit_field s at w held (omega (arith, one.0)) (omega (arith, one.1)))
-    (λ _ s at held. digit_field s at second held (omega (arith, two.0)) (omega (arith, two.1)))
-    (λ _ s at held. digit_field s at third held (omega (arith, half.0)) (omega (arith, half.1)))
-    (λ e. omega arith) (λ e. omega arith) (λ e. omega arith)
+    (λ s at held. digit_field s at w held (omega (arith, one.0)) (omega (arith, one.1)))
+    (λ s at held. digit_field s at second held (omega (arith, two.0)) (omega (arith, two.1)))
+    (λ s at held. digit_field s at third held (omega (arith, half.0)) (omega (arith, half.1)))
 
 -- ---- ASCII bytes, not zero: neither they nor they less one have their first bit, unless one is borrowed
 

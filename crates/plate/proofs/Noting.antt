@@ -1,5 +1,5 @@
 -- Rules noted one by one: a rule behind the others leaves each other group as it is, and lengthens its own or begins it. Assumes nothing.
-use Rattle.std.proofs.Common.{◌≡◌, ℕ, zero, suc, ◌+◌, ◌*◌, ◌/◌, ◌%◌, ◌<◌, ◌≤◌, Bool, true, false, not, eqb, ltb, leb, ◌⊎◌, List, [], ◌∷◌, ◌++◌, length, get_or, take, drop, set, replicate, sym, refl, ap, ◌∙◌, subst, ⊎_elim, le_trans, add-one, arith, length-append, length-set, drop_of_length-le, take_all, get_or-set_other, get_or-set_same, ltb-true, eq-eqb, ne_eqb, eqb-true, le-leb, leb-true}
+use Rattle.std.proofs.Common.{Option, Some, ◌≡◌, ℕ, zero, suc, ◌+◌, ◌*◌, ◌/◌, ◌%◌, ◌<◌, ◌≤◌, Bool, true, false, not, eqb, ltb, leb, ◌⊎◌, List, [], ◌∷◌, ◌++◌, length, get_or, take, drop, set, replicate, sym, refl, ap, ◌∙◌, subst, ⊎_elim, le_trans, add-one, arith, length-append, length-set, drop_of_length-le, take_all, get_or-set_other, get_or-set_same, ltb-true, eq-eqb, ne_eqb, eqb-true, le-leb, leb-true}
 use mathlib.Core.Bool.{false≢true}
 use lib.ListN.{length-replicate, get_or-replicate}
 use lib.Seq.{take-append-le, drop-append-le, take-append_seam, drop-append_seam}
@@ -11,13 +11,12 @@ use Rattle.plate.specs.Most.{most_rules}
 use Rattle.plate.specs.Plate.{Rule, Edition, first_code, good_rule}
 use Rattle.plate.specs.Stands.{Here, Stands}
 use Rattle.plate.specs.Read.{foldings_place, many, past, rule_at, rule_end, rule_count, folding_count, rules_place, accepted_in, edition_of, count_width, accepted, plate_in}
-use Rattle.plate.specs.Answers.{in_order, rule_fits, rule_seen}
+use Rattle.plate.specs.Answers.{in_order, rule_fits, seen_of, rule_seen}
 use Rattle.plate.specs.Noted.{half, noted_characters, is_of, is_other, GroupIs, NotedFrom, NotedIn, NotedIf, AllPlaced}
 use Rattle.plate.specs.declared.Seen.{Seen}
-use Rattle.plate.specs.declared.Seen.TheVariants.{Good}
 use Rattle.plate.proofs.Listed.{length_many, get_d_many, many_snoc, past_snoc}
 use Rattle.plate.proofs.Facts.{rules_counted, all_stand}
-use Rattle.plate.proofs.Accepted.{Taken, good}
+use Rattle.plate.proofs.Fronts.{told}
 
 -- ---- one rule more
 
@@ -120,22 +119,31 @@ going_start s from places groups e = record {
 }
 
 module _ (s : List ℕ) (from i at begun code : ℕ) (places groups : List ℕ) (g : Going s from i at begun code places groups) (n : ℕ)
-    (r : Seen) (e : r ≡ rule_seen s at code n) (c k next : ℕ) (f : r ≡ Good c k next)
-    (b : ℕ) (o : ((c ≡ code) × (b ≡ begun)) ⊎ ((c ≡ code → ⊥) × (b ≡ i))) where
+    (r : Option Seen) (e : r ≡ rule_seen s at code n) (q : Seen) (f : r ≡ Some q)
+    (b : ℕ) (o : ((q.code ≡ code) × (b ≡ begun)) ⊎ ((q.code ≡ code → ⊥) × (b ≡ i))) where
+  abbrev c : ℕ
+  c = q.code
+
   abbrev one : Rule
   one = rule_at s at
 
   abbrev rules : List Rule
   rules = many (rule_at s) (rule_end s) i from
 
-  seen : Taken (rule_fits one code n) (first_code one) (length one.pattern) (rule_end s at) c k next
-  seen = good (rule_fits one code n) (first_code one) (length one.pattern) (rule_end s at) c k next e f
+  seen : (rule_fits one code n ≡ true) × (seen_of one (rule_end s at) ≡ q)
+  seen = told (rule_fits one code n) (seen_of one (rule_end s at)) q e f
+
+  is_first : first_code one ≡ c
+  is_first = ap (λ (x : Seen). x.code) seen.1
+
+  is_end : rule_end s at ≡ q.next
+  is_end = ap (λ (x : Seen). x.next) seen.1
 
   -- Its first code point is not below the last.
   up : code ≤ c
   up =
-      let t = (and_true (good_rule one) (in_order code n (first_code one) (length one.pattern)) seen.fits).1 in
-      let same = seen.code in
+      let t = (and_true (good_rule one) (in_order code n (first_code one) (length one.pattern)) seen.0).1 in
+      let same = is_first in
       ⊎_elim
       (λ w. let l = ltb-true code (first_code one) w in omega arith)
       (λ w. let q = eqb-true code (first_code one) (and_true (eqb code (first_code one)) (leb (length one.pattern) n) w).0 in omega arith)
@@ -152,12 +160,12 @@ module _ (s : List ℕ) (from i at begun code : ℕ) (places groups : List ℕ) 
       ⊎_elim
       (λ w.
       subst (λ (x : ℕ). GroupIs (rules ++ (one ∷ [])) c x (suc i)) (sym w.1)
-      (same_grows rules one c i long seen.code begun (subst (λ (x : ℕ). GroupIs rules x begun i) (sym w.0) g.last)))
+      (same_grows rules one c i long is_first begun (subst (λ (x : ℕ). GroupIs rules x begun i) (sym w.0) g.last)))
       (λ w.
       let ne = w.0 in
       let high : code < c = let u = up in omega arith in
       subst (λ (x : ℕ). GroupIs (rules ++ (one ∷ [])) c x (suc i)) (sym w.1)
-      (new_begins rules one c i long seen.code (apart code c rules high g.low)))
+      (new_begins rules one c i long is_first (apart code c rules high g.low)))
       o
 
   module _ (v : ℕ) (is : v ≡ b * half + suc i) (few : suc i ≤ most_rules) where
@@ -179,7 +187,7 @@ module _ (s : List ℕ) (from i at begun code : ℕ) (places groups : List ℕ) 
         go false q =
             let differs : x ≡ c → ⊥ = λ y. false≢true (sym q ∙ eq-eqb x c y) in
             let kept : get_or stored x 0 ≡ get_or groups x 0 = get_or-set_other groups c x v 0 differs in
-            rw kept (other_keeps rules one x (get_or groups x 0 / half) (get_or groups x 0 % half) (g.noted.1.of x h) (λ y. differs (sym y ∙ seen.code)))
+            rw kept (other_keeps rules one x (get_or groups x 0 / half) (get_or groups x 0 % half) (g.noted.1.of x h) (λ y. differs (sym y ∙ is_first)))
 
     place_of : i < length places → (j : ℕ) → j < suc i → get_or (set places i at) j 0 ≡ past (rule_end s) j from
     place_of room j h =
@@ -189,9 +197,9 @@ module _ (s : List ℕ) (from i at begun code : ℕ) (places groups : List ℕ) 
         let same : j ≡ i = omega arith in
         ap (λ (y : ℕ). get_or (set places i at) y 0) same ∙ get_or-set_same places i at 0 room ∙ g.here ∙ ap (λ (y : ℕ). past (rule_end s) y from) (sym same))
 
-    turn : i < length places → Going s from (suc i) next b c (set places i at) stored
+    turn : i < length places → Going s from (suc i) q.next b c (set places i at) stored
     turn room = record {
-      here = sym seen.behind ∙ ap (rule_end s) g.here ∙ sym (past_snoc (rule_end s) i from);
+      here = sym is_end ∙ ap (rule_end s) g.here ∙ sym (past_snoc (rule_end s) i from);
       noted = (
         record { room = omega (arith, length-set places i at); at = place_of room },
         record {
@@ -201,13 +209,13 @@ module _ (s : List ℕ) (from i at begun code : ℕ) (places groups : List ℕ) 
       );
       last = subst (λ (l : List Rule). GroupIs l c b (suc i)) (sym behind) own;
       low = ap (every (up_to_code c)) behind ∙ every_append (up_to_code c) rules (one ∷ [])
-          ∙ both_true (raised code c rules up g.low) (both_true (le-leb (first_code one) c (let q = seen.code in omega arith)) refl);
+          ∙ both_true (raised code c rules up g.low) (both_true (le-leb (first_code one) c (let q = is_first in omega arith)) refl);
     }
 
   -- One rule more is noted.
-  pub going_turn : i + 1 ≤ most_rules → i < length places → Going s from (i + 1) next b c (set places i at) (set groups c (b * half + (i + 1)))
+  pub going_turn : i + 1 ≤ most_rules → i < length places → Going s from (i + 1) q.next b c (set places i at) (set groups c (b * half + (i + 1)))
   going_turn few room =
-      subst (λ (m : ℕ). Going s from m next b c (set places i at) (set groups c (b * half + (i + 1)))) (sym (add-one i))
+      subst (λ (m : ℕ). Going s from m q.next b c (set places i at) (set groups c (b * half + (i + 1)))) (sym (add-one i))
       (turn (b * half + (i + 1)) (omega arith) (omega arith) room)
 
 -- ---- a group is noted when it is over: the rules are noted once the present one is

@@ -1,17 +1,18 @@
 -- Only one answer satisfies each promise of this crate, for each says its answer by an equation. Assumes nothing.
-use Rattle.std.proofs.Common.{◌≡◌, ℕ, ◌+◌, ◌^◌, ◌<◌, ◌≤◌, Bool, List, length, take, Bor}
+use Rattle.std.proofs.Common.{Option, ◌≡◌, ℕ, ◌+◌, ◌^◌, ◌<◌, ◌≤◌, Bool, List, ◌++◌, length, take, Bor}
 use Rattle.laws.proofs.Only.{only}
 use Rattle.chars.specs.Utf8.{char_of}
 use Rattle.plate.specs.Bits.{number_at}
+use Rattle.plate.specs.Plate.{most_digits}
 use Rattle.plate.specs.Most.{most_rules}
+use Rattle.plate.specs.Field.{padded}
 use Rattle.plate.specs.Read.{pattern_at, rule_at, folding_at, fold_by, rules_place, count_width, most_of, accepted, plate_in}
 use Rattle.plate.specs.Answers.{bytes_at, front_of, FrontTo, good_text, HeadIs}
-use Rattle.plate.specs.Stands.{Stands, LetterIs, beginning, first_key, field_of, held_field}
+use Rattle.plate.specs.Stands.{Stands, LetterIs, beginning, first_key, field_of}
 use Rattle.plate.specs.declared.edition.Head.{Head}
-use Rattle.plate.specs.declared.Front.{Front}
 use Rattle.plate.specs.declared.Letter.{Letter}
 use Rattle.plate.specs.declared.Beginning.{Beginning}
-use Rattle.plate.specs.declared.Field.{Field}
+use Rattle.plate.specs.declared.FieldKind.{FieldKind}
 use Rattle.plate.specs.declared.reader.BitReader.{BitReader}
 use Rattle.plate.specs.declared.reader.Folding.{Folding}
 
@@ -20,10 +21,10 @@ module _ (s : List ℕ) where
   pub bits : (at n r r' : ℕ) → (r ≡ number_at s at n) × (r < 2 ^ n) → (r' ≡ number_at s at n) × (r' < 2 ^ n) → r ≡ r'
   bits at n r r' e f = only e.0 f.0
 
-  pub wide_front : (at n : ℕ) (r r' : Front) → r ≡ front_of (char_of (bytes_at s n at)) → r' ≡ front_of (char_of (bytes_at s n at)) → r ≡ r'
+  pub wide_front : (at n : ℕ) (r r' : Option Letter) → r ≡ front_of (char_of (bytes_at s n at)) → r' ≡ front_of (char_of (bytes_at s n at)) → r ≡ r'
   wide_front at n r r' e f = only e f
 
-  pub front : (at n : ℕ) (r r' : Front) → (r ≡ front_of (char_of (bytes_at s n at))) × FrontTo r n → (r' ≡ front_of (char_of (bytes_at s n at))) × FrontTo r' n → r ≡ r'
+  pub front : (at n : ℕ) (r r' : Option Letter) → (r ≡ front_of (char_of (bytes_at s n at))) × FrontTo r n → (r' ≡ front_of (char_of (bytes_at s n at))) × FrontTo r' n → r ≡ r'
   front at n r r' e f = only e.0 f.0
 
   pub is_text : (at n : ℕ) (r r' : Bool) → r ≡ good_text (bytes_at s n at) → r' ≡ good_text (bytes_at s n at) → r ≡ r'
@@ -60,8 +61,8 @@ module _ (s : List ℕ) where
   pub pattern_begins : (at word plain : ℕ) (r r' : Beginning) → r ≡ beginning (pattern_at s at) word plain → r' ≡ beginning (pattern_at s at) word plain → r ≡ r'
   pattern_begins at word plain r r' e f = only e f
 
-  pub field_at : (at which most : ℕ) (r r' : Field) → r ≡ held_field (take most (field_of (rule_at s at) which)) → r' ≡ held_field (take most (field_of (rule_at s at) which)) → r ≡ r'
-  field_at at which most r r' e f = only e f
+  pub field : (at : ℕ) (which : FieldKind) (most : ℕ) (r r' : List (List ℕ)) → r ≡ take most (field_of (rule_at s at) which) → r' ≡ take most (field_of (rule_at s at) which) → r ≡ r'
+  field at which most r r' e f = only e f
 
   pub folding_at_lem : (at : ℕ) (r r' : Folding) → (r.key ≡ (folding_at s at).key) × (r.target ≡ (folding_at s at).target) → (r'.key ≡ (folding_at s at).key) × (r'.target ≡ (folding_at s at).target) → r ≡ r'
   folding_at_lem at r r' e f = λ i. record { key = only e.0 f.0 i; target = only e.1 f.1 i }
@@ -77,3 +78,16 @@ module _ (b : BitReader) (n : ℕ) where
 
   pub behind : (r r' : BitReader) → (r.bytes ≡ b.bytes) × (r.at ≡ b.at + n) → (r'.bytes ≡ b.bytes) × (r'.at ≡ b.at + n) → r ≡ r'
   behind r r' e f = new b.bytes (b.at + n) r r' e f
+
+-- Digits and a field, as they are held.
+pub digits : (ds r r' : List ℕ) → r ≡ ds → r' ≡ ds → r ≡ r'
+digits ds r r' e f = only e f
+
+pub padded_lem : (ds r r' : List ℕ) → r ≡ padded ds → r' ≡ padded ds → r ≡ r'
+padded_lem ds r r' e f = only e f
+
+pub append : (ds more r r' : List ℕ) → r ≡ take most_digits (ds ++ more) → r' ≡ take most_digits (ds ++ more) → r ≡ r'
+append ds more r r' e f = only e f
+
+pub alternatives : (field r r' : List (List ℕ)) → r ≡ field → r' ≡ field → r ≡ r'
+alternatives field r r' e f = only e f

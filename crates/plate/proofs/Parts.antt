@@ -1,30 +1,26 @@
 -- What the functions of `read` answer: a rule's parts stand where the definitions look for them, and what is held is what is written there.
 -- Assumes nothing.
-use Rattle.std.proofs.Common.{◌≡◌, ℕ, zero, suc, ◌+◌, ◌-◌, ◌*◌, ◌/◌, ◌%◌, ◌^◌, ◌<◌, ◌≤◌, Bool, true, false, cond, ◌&&◌, eqb, ltb, leb, ◌⊎◌, List, [], ◌∷◌, ◌++◌, map, length, get_or, take, drop, set, replicate, sym, refl, ap, ◌∙◌, subst, add-one, arith, length-drop, drop-drop, ltb-true, eq-eqb, ne_eqb, leb-true}
+use Rattle.std.proofs.Common.{Option, Some, None, IsSome, ◌≡◌, ℕ, zero, suc, ◌+◌, ◌-◌, ◌*◌, ◌/◌, ◌%◌, ◌<◌, ◌≤◌, Bool, true, false, cond, ◌&&◌, eqb, ltb, List, [], ◌∷◌, length, get_or, take, drop, sym, refl, ap, ◌∙◌, subst, arith, length-drop, drop-drop, ltb-true, eq-eqb, ne_eqb}
 use mathlib.Core.Bool.{false≢true}
-use lib.ListN.{length-map}
 use Rattle.laws.specs.Lists.{every, between}
 use Rattle.laws.proofs.Tests.{and_true, both_true, between_true}
 use Rattle.laws.proofs.Cuts.{every_drop}
-use Rattle.laws.proofs.Many.{map_snoc, store}
 use Rattle.chars.specs.Utf8.{char_of, chars_of, is_text, code_of, width_of}
 use Rattle.chars.specs.declared.Char.TheVariants.{One}
 use Rattle.chars.proofs.Texts.{text_front, chars_front}
 use Rattle.chars.proofs.Exact.{decoded_one, bytes_count}
-use Rattle.chars.specs.Digits.{digit, is_alternative}
 use Rattle.plate.specs.Bits.{number_at}
-use Rattle.plate.specs.Plate.{most_digits, most_alternatives, most_bytes, Folding, nonzero_byte, good_field, good_pattern, rising}
+use Rattle.plate.specs.Plate.{most_bytes, Folding, nonzero_byte, good_field, good_pattern, rising}
 use Rattle.plate.specs.Most.{rule_most}
-use Rattle.plate.specs.Read.{many, past, alternative_at, alternative_end, field_at, field_end, pattern_at, rule_at, folding_at, folding_end, fold_by}
+use Rattle.plate.specs.Read.{many, past, alternative_end, field_at, field_end, pattern_at, rule_at, folding_at, folding_end, fold_by}
 use Rattle.plate.specs.Answers.{bytes_at, front_of, good_text}
-use Rattle.plate.specs.Stands.{Here, letters_from, Mark, LetterIs, field_of, field_place, held_alternative, held_field}
-use Rattle.plate.specs.declared.Front as Front
-use Rattle.plate.specs.declared.Front.TheVariants as FrontIs
-use Rattle.plate.specs.declared.Alternative.{Alternative}
-use Rattle.plate.specs.declared.Field.{Field}
+use Rattle.plate.specs.Stands.{Here, letters_from, Mark, LetterIs, field_of, field_place}
+use Rattle.plate.specs.declared.Letter.{Letter}
+use Rattle.plate.specs.declared.FieldKind.{FieldKind}
+use Rattle.plate.specs.declared.FieldKind.TheVariants.{Start, Vowel, Other}
 use Rattle.plate.proofs.Place.{number_lt}
-use Rattle.plate.proofs.Windows.{number_append, middle}
-use Rattle.plate.proofs.Listed.{length_many, many_cons, many_snoc, get_d_many, take_many, drop_many, past_cons, past_add, past_snoc, every_at, take_least}
+use Rattle.plate.proofs.Windows.{number_append}
+use Rattle.plate.proofs.Listed.{length_many, many_cons, get_d_many, take_many, drop_many, past_cons, past_add}
 use Rattle.plate.proofs.Facts.{rule_near}
 use Rattle.plate.proofs.Fronts.{front_is, bytes_length, bytes_drop, ascii, front_text, not_front}
 
@@ -170,17 +166,13 @@ module _ (s : List ℕ) where
   pub field_turn : (place left : ℕ) → 0 < left → (r : ℕ) → r ≡ number_at s place 3 → past (alternative_end s) (left - 1) (place + 3 + 4 * r) ≡ past (alternative_end s) left place
   field_turn place left h r e = ap (λ (x : ℕ). past (alternative_end s) (left - 1) (place + 3 + 4 * x)) e ∙ sym (past_cons (alternative_end s) left place h)
 
-  module _ (at which n : ℕ) (e : n ≡ number_at s at 5) where
-    pub place_start : which ≡ 0 → at + 5 + 8 * n ≡ field_place s at which
-    place_start w = ap (λ (k : ℕ). at + 5 + 8 * k) e ∙ ap (field_place s at) (sym w)
-
+  module _ (at n : ℕ) (e : n ≡ number_at s at 5) where
     module _ (v : ℕ) (f : v ≡ field_end s (at + 5 + 8 * n)) where
-      pub place_vowel : which ≡ 1 → v ≡ field_place s at which
-      place_vowel w = f ∙ ap (λ (k : ℕ). field_end s (at + 5 + 8 * k)) e ∙ ap (field_place s at) (sym w)
+      pub place_vowel : v ≡ field_place s at Vowel
+      place_vowel = f ∙ ap (λ (k : ℕ). field_end s (at + 5 + 8 * k)) e
 
-      pub place_other : (which ≡ 0 → ⊥) → (which ≡ 1 → ⊥) → which ≤ 2 → (o : ℕ) → o ≡ field_end s v → o ≡ field_place s at which
-      place_other w x y o g =
-          g ∙ ap (field_end s) (f ∙ ap (λ (k : ℕ). field_end s (at + 5 + 8 * k)) e) ∙ ap (field_place s at) {x = 2} {y = which} (omega arith)
+      pub place_other : (o : ℕ) → o ≡ field_end s v → o ≡ field_place s at Other
+      place_other o g = g ∙ ap (field_end s) place_vowel
 
   -- A field begins within its rule.
   module _ (at : ℕ) (here : Here s at) where
@@ -189,10 +181,10 @@ module _ (s : List ℕ) where
         let m = rule_near s at here.good in
         omega (arith, m.start, m.vowel, f ∙ ap (λ (k : ℕ). field_end s (at + 5 + 8 * k)) e)
 
-    pub field_near : (which r : ℕ) → r ≡ field_place s at which → r ≤ at + rule_most
-    field_near zero r e = let m = rule_near s at here.good in omega (arith, m.start)
-    field_near (suc zero) r e = let m = rule_near s at here.good in omega (arith, m.start, m.vowel)
-    field_near (suc (suc k)) r e = let m = rule_near s at here.good in omega (arith, m.start, m.vowel, m.other)
+    pub field_near : (which : FieldKind) (r : ℕ) → r ≡ field_place s at which → r ≤ at + rule_most
+    field_near Start r e = let m = rule_near s at here.good in omega (arith, m.start)
+    field_near Vowel r e = let m = rule_near s at here.good in omega (arith, m.start, m.vowel)
+    field_near Other r e = let m = rule_near s at here.good in omega (arith, m.start, m.vowel, m.other)
 
   -- ---- patterns
 
@@ -257,57 +249,26 @@ module _ (s : List ℕ) where
           letter_is v 1 (ap char_of (rest_bytes (number_at s at 5) refl)
           ∙ ascii s (number_at s at 5 - k) (at + 5 + 8 * k) (let l = rest_some (number_at s at 5) refl in omega arith) v e i)
 
-      module _ (n : ℕ) (e : n ≡ number_at s at 5) (r : Front.Front) (d : r ≡ front_of (char_of (bytes_at s (n - k) (at + 5 + 8 * k)))) where
-        pub letter_wide : (c w : ℕ) → r ≡ FrontIs.Is c w → LetterIs s at k (record { code = c; width = w })
-        letter_wide c w f = letter_is c w (ap char_of (rest_bytes n e) ∙ (front_is (char_of (bytes_at s (n - k) (at + 5 + 8 * k))) c w (sym d ∙ f)).0)
+      module _ (n : ℕ) (e : n ≡ number_at s at 5) (r : Option Letter) (d : r ≡ front_of (char_of (bytes_at s (n - k) (at + 5 + 8 * k)))) where
+        pub letter_wide : (l : Letter) → r ≡ Some l → LetterIs s at k l
+        letter_wide l f = letter_is l.code l.width (ap char_of (rest_bytes n e) ∙ (front_is (char_of (bytes_at s (n - k) (at + 5 + 8 * k))) l (sym d ∙ f)).0)
 
         -- There is one.
-        pub letter_none : r ≡ FrontIs.Not → ⊥
+        letter_none : r ≡ None → ⊥
         letter_none f =
             false≢true (sym (not_front rest (λ z. let l = length-drop k (pattern_at s at) in omega arith) (ap (λ (l : List ℕ). front_of (char_of l)) (rest_bytes n e) ∙ sym d ∙ f)) ∙ rest_text)
 
-  -- ---- alternatives
-
-  module _ (at n : ℕ) (e : n ≡ number_at s at 3) where
-    abbrev digit_at : ℕ → ℕ
-    digit_at p = 48 + number_at s p 4
-
-    abbrev digits_at : ℕ → List ℕ
-    digits_at k = many digit_at (λ p. p + 4) k (at + 3)
-
-    pub count_six : is_alternative (alternative_at s at) ≡ true → n ≤ most_digits
-    count_six h =
-        subst (λ (k : ℕ). k ≤ most_digits) (length_many digit_at (λ p. p + 4) (number_at s at 3) (at + 3) ∙ sym e)
-        (leb-true (length (alternative_at s at)) most_digits (and_true (leb (length (alternative_at s at)) most_digits) (every digit (alternative_at s at)) h).0)
-
-    -- Digit k stands behind k others, and the rest of n behind it.
-    digit_at_lem : (v : ℕ) → v ≡ number_at s (at + 3) (4 * n) → (k : ℕ) → k < n → 48 + v / 2 ^ (4 * n - 4 * k - 4) % 16 ≡ digit_at (past (λ p. p + 4) k (at + 3))
-    digit_at_lem v f k h =
-        ap (λ (x : ℕ). 48 + x / 2 ^ (4 * n - 4 * k - 4) % 16) (f ∙ ap (number_at s (at + 3)) {x = 4 * n} {y = 4 * k + 4 + (4 * n - 4 * k - 4)} (omega arith))
-        ∙ ap (λ (x : ℕ). 48 + x) (middle s (at + 3) (4 * k) 4 (4 * n - 4 * k - 4))
-        ∙ ap digit_at (sym (past_add 4 k (at + 3)))
-
-    pub digits_store : (v : ℕ) → v ≡ number_at s (at + 3) (4 * n) → (k : ℕ) → k < n → k < most_digits → (array : List ℕ) → array ≡ digits_at k ++ replicate (most_digits - k) 48
-        → set array k (48 + v / 2 ^ (4 * n - 4 * k - 4) % 16) ≡ digits_at (k + 1) ++ replicate (most_digits - (k + 1)) 48
-    digits_store v f k h i array g =
-        store most_digits k (digits_at k) array 48 _ i (length_many digit_at (λ p. p + 4) k (at + 3)) g
-        ∙ ap (λ (x : ℕ). (digits_at k ++ (x ∷ [])) ++ replicate (most_digits - (k + 1)) 48) (digit_at_lem v f k h)
-        ∙ ap (λ (l : List ℕ). l ++ replicate (most_digits - (k + 1)) 48) (sym (many_snoc digit_at (λ p. p + 4) k (at + 3)))
-        ∙ ap (λ (m : ℕ). digits_at m ++ replicate (most_digits - (k + 1)) 48) (sym (add-one k))
-
-    pub alternative_held : (k : ℕ) → k ≡ n → (array : List ℕ) → array ≡ digits_at k ++ replicate (most_digits - k) 48
-        → ◌≡◌ {A = Alternative} (record { digits = array; count = n }) (held_alternative (alternative_at s at))
-    alternative_held k h array f =
-        let len = length_many digit_at (λ p. p + 4) (number_at s at 3) (at + 3) in
-        λ i. record {
-          digits = (f ∙ ap (λ (m : ℕ). digits_at m ++ replicate (most_digits - m) 48) (h ∙ e) ∙ ap (λ (m : ℕ). alternative_at s at ++ replicate (most_digits - m) 48) (sym len)) i;
-          count = (e ∙ sym len) i;
-        }
+        pub letter_there : IsSome r
+        letter_there = go r letter_none
+          where
+            go : (q : Option Letter) → (q ≡ None → ⊥) → IsSome q
+            go (Some l) h = refl
+            go None h = absurd (h refl)
 
   -- ---- fields
 
   -- Each field of a rule that stands here is good.
-  pub field_good : (at : ℕ) → Here s at → (which : ℕ) → good_field (field_at s (field_place s at which)) ≡ true
+  pub field_good : (at : ℕ) → Here s at → (which : FieldKind) → good_field (field_at s (field_place s at which)) ≡ true
   field_good at here which = go which
     where
       fields : good_field (rule_at s at).start && (good_field (rule_at s at).vowel && good_field (rule_at s at).other) ≡ true
@@ -316,63 +277,12 @@ module _ (s : List ℕ) where
       others : good_field (rule_at s at).vowel && good_field (rule_at s at).other ≡ true
       others = (and_true (good_field (rule_at s at).start) (good_field (rule_at s at).vowel && good_field (rule_at s at).other) fields).1
 
-      go : (which : ℕ) → good_field (field_at s (field_place s at which)) ≡ true
-      go zero = (and_true (good_field (rule_at s at).start) (good_field (rule_at s at).vowel && good_field (rule_at s at).other) fields).0
-      go (suc zero) = (and_true (good_field (rule_at s at).vowel) (good_field (rule_at s at).other) others).0
-      go (suc (suc k)) = (and_true (good_field (rule_at s at).vowel) (good_field (rule_at s at).other) others).1
+      go : (which : FieldKind) → good_field (field_at s (field_place s at which)) ≡ true
+      go Start = (and_true (good_field (rule_at s at).start) (good_field (rule_at s at).vowel && good_field (rule_at s at).other) fields).0
+      go Vowel = (and_true (good_field (rule_at s at).vowel) (good_field (rule_at s at).other) others).0
+      go Other = (and_true (good_field (rule_at s at).vowel) (good_field (rule_at s at).other) others).1
 
-  pub field_here : (at which : ℕ) → field_of (rule_at s at) which ≡ field_at s (field_place s at which)
-  field_here at zero = refl
-  field_here at (suc zero) = refl
-  field_here at (suc (suc k)) = refl
-
-  module _ (at which from : ℕ) (here : Here s at) (e : from ≡ field_place s at which) (n : ℕ) (d : n ≡ number_at s from 4) where
-    abbrev firsts : ℕ → List (List ℕ)
-    firsts k = many (alternative_at s) (alternative_end s) k (from + 4)
-
-    good : good_field (field_at s from) ≡ true
-    good = ap (λ (p : ℕ). good_field (field_at s p)) e ∙ field_good at here which
-
-    pub field_eight : n ≤ most_alternatives
-    field_eight =
-        let l = length (field_at s from) in
-        subst (λ (m : ℕ). m ≤ most_alternatives) (length_many (alternative_at s) (alternative_end s) (number_at s from 4) (from + 4) ∙ sym d)
-        (between_true 1 most_alternatives l (and_true (between 1 most_alternatives l) (every is_alternative (field_at s from)) good).0).1
-
-    pub alternative_good : (k : ℕ) → k < n → (place : ℕ) → place ≡ past (alternative_end s) k (from + 4) → is_alternative (alternative_at s place) ≡ true
-    alternative_good k h place f =
-        ap (λ (p : ℕ). is_alternative (alternative_at s p)) f
-        ∙ every_at (alternative_at s) (alternative_end s) is_alternative (number_at s from 4) (from + 4) k (subst (λ (m : ℕ). k < m) d h)
-        (and_true (between 1 most_alternatives (length (field_at s from))) (every is_alternative (field_at s from)) good).1
-
-    pub place_more : (k place : ℕ) → place ≡ past (alternative_end s) k (from + 4) → (r : ℕ) → r ≡ number_at s place 3
-        → place + 3 + 4 * r ≡ past (alternative_end s) (k + 1) (from + 4)
-    place_more k place f r g =
-        ap (λ (x : ℕ). place + 3 + 4 * x) g ∙ ap (alternative_end s) f ∙ sym (past_snoc (alternative_end s) k (from + 4))
-        ∙ ap (λ (m : ℕ). past (alternative_end s) m (from + 4)) (sym (add-one k))
-
-    pub alternatives_store : (k : ℕ) → k < most_alternatives → (array : List Alternative) → array ≡ map held_alternative (firsts k) ++ replicate (most_alternatives - k) (held_alternative [])
-        → (place : ℕ) → place ≡ past (alternative_end s) k (from + 4) → (a : Alternative) → a ≡ held_alternative (alternative_at s place)
-        → set array k a ≡ map held_alternative (firsts (k + 1)) ++ replicate (most_alternatives - (k + 1)) (held_alternative [])
-    alternatives_store k h array f place g a i =
-        let fill : List Alternative = replicate (most_alternatives - (k + 1)) (held_alternative []) in
-        store most_alternatives k (map held_alternative (firsts k)) array (held_alternative []) a h
-        (length-map (firsts k) held_alternative ∙ length_many (alternative_at s) (alternative_end s) k (from + 4)) f
-        ∙ ap (λ (x : Alternative). (map held_alternative (firsts k) ++ (x ∷ [])) ++ fill) (i ∙ ap (λ (p : ℕ). held_alternative (alternative_at s p)) g)
-        ∙ ap (λ (l : List Alternative). l ++ fill) (sym (map_snoc held_alternative (firsts k) (alternative_at s (past (alternative_end s) k (from + 4)))))
-        ∙ ap (λ (l : List (List ℕ)). map held_alternative l ++ fill) (sym (many_snoc (alternative_at s) (alternative_end s) k (from + 4)))
-        ∙ ap (λ (m : ℕ). map held_alternative (firsts m) ++ fill) (sym (add-one k))
-
-    pub field_held : (most m : ℕ) → m ≤ n → m ≤ most → (m ≡ n) ⊎ (m ≡ most) → (k : ℕ) → k ≡ m → (array : List Alternative)
-        → array ≡ map held_alternative (firsts k) ++ replicate (most_alternatives - k) (held_alternative []) → ◌≡◌ {A = Field} (record { alternatives = array; count = m })
-        (held_field (take most (field_of (rule_at s at) which)))
-    field_held most m h i j k f array g =
-        let len = length_many (alternative_at s) (alternative_end s) m (from + 4) in
-        (λ x. record {
-          alternatives = (g ∙ ap (λ (y : ℕ). map held_alternative (firsts y) ++ replicate (most_alternatives - y) (held_alternative [])) f ∙ ap
-              (λ (y : ℕ). map held_alternative (firsts m) ++ replicate (most_alternatives - y) (held_alternative [])) (sym len)) x;
-          count = sym len x;
-        })
-        ∙ ap held_field (sym (take_least (alternative_at s) (alternative_end s) most n m (from + 4) h i j)
-        ∙ ap (λ (y : ℕ). take most (firsts y)) d
-        ∙ ap (take most) (ap (field_at s) e ∙ sym (field_here at which)))
+  pub field_here : (at : ℕ) (which : FieldKind) → field_of (rule_at s at) which ≡ field_at s (field_place s at which)
+  field_here at Start = refl
+  field_here at Vowel = refl
+  field_here at Other = refl

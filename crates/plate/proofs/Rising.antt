@@ -7,7 +7,8 @@ use Rattle.plate.specs.Window.{Holds}
 use Rattle.plate.specs.Answers.{foldings_good}
 use Rattle.plate.proofs.Windows.{front, part_is}
 use Rattle.plate.proofs.Shapes.{low_key}
-use Rattle.plate.proofs.Accepted.{foldings_turn, some_key}
+use Rattle.plate.proofs.Fronts.{told}
+use Rattle.plate.proofs.Accepted.{folding_fits, foldings_turn}
 
 -- the target in front of a window, or in all of them
 abbrev pub target : ℕ → ℕ
@@ -43,7 +44,7 @@ passed_turn s n at left before all w p more held above some = record {
       let small : key ≤ 0xD7FF = omega (arith, same, low) in
       let parts = gathered all w few in
       let one = low_key s at (before / 8796093022208) key (target w) is_key is-target rising small some (omega (arith, parts.1)) in
-      let good = some_key s at (before / 8796093022208) key one (λ z. omega (arith, rising, z)) in
+      let good = told (folding_fits s at (before / 8796093022208)) (number_at s at 21) key one refl in
       ap (foldings_good s (at + 42) (left - 1)) same
       ∙ foldings_turn s at (before / 8796093022208) left more true (sym good.0) refl key is_key
       ∙ p.kept (omega (arith, rising, small)) parts.0;

@@ -42,9 +42,6 @@ module _ (s : List ℕ) where
   -- ---- foldings
 
   module _ (count n : ℕ) (e : n ≡ count) where
-    pub no_key : n < 1 → 0x110000 ≡ first_key (many (folding_at s) folding_end count 32)
-    no_key h = ap (λ (k : ℕ). first_key (many (folding_at s) folding_end k 32)) {x = 0} {y = count} (omega arith)
-
     pub key_first : 1 ≤ n → (k : ℕ) → k ≡ number_at s 32 21 → k ≡ first_key (many (folding_at s) folding_end count 32)
     key_first h k f = f ∙ sym (ap first_key (many_cons (folding_at s) folding_end count 32 (omega arith)))
 

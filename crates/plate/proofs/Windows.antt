@@ -1,12 +1,18 @@
 -- Bits out of the middle of four bytes: a number of m + n bits is the first m and the last n, four bytes are 32 bits, and the n bits at a place lie
 -- within the four bytes from its byte on. Assumes nothing.
-use Rattle.std.proofs.Common.{◌≡◌, ℕ, zero, suc, ◌+◌, ◌-◌, ◌*◌, ◌/◌, ◌%◌, ◌^◌, ◌<◌, ◌≤◌, List, get_or, sym, refl, ap, ◌∙◌, subst, lt_of_lt_of_le, add-zero, add_assoc, add-suc, mod-lt, mul_assoc, one-mul, pow-suc, div-add-mod', mul-one, div-one, arith, lit<, pow_pos, pow_mono, shl_exact, shr-shr}
+use Rattle.std.proofs.Common.{true, ◌≡◌, ℕ, zero, suc, ◌+◌, ◌-◌, ◌*◌, ◌/◌, ◌%◌, ◌^◌, ◌<◌, ◌≤◌, List, get_or, sym, refl, ap, ◌∙◌, subst, lt_of_lt_of_le, add-zero, add_assoc, add-suc, mod-lt, mul_assoc, one-mul, pow-suc, div-add-mod', mul-one, div-one, arith, lit<, pow_pos, pow_mono, shl_exact, shr-shr}
 use native.Mathlib.Nat.{div-eq_of_lt}
 use lib.Pow.{shl-shr, high, low, field}
 use Rattle.plate.specs.Bits.{bit, number_at}
-use Rattle.plate.specs.Answers.{four_bytes}
-use Rattle.plate.specs.Window.{eight_bytes, Holds}
+use Rattle.plate.specs.Window.{BytesAt, Holds}
 use Rattle.plate.proofs.Place.{number_lt}
+use Rattle.std.proofs.lemmas.Grind.{common_steps}
+use Rattle.std.specs.Int.{w32, w64, from_be_bytes}
+use Rattle.std.specs.Ordering.{is_le, is_lt, nat_cmp}
+
+-- What a range tells of a window that it contains.
+pub ranged : (low high w : ℕ) → (is_le (nat_cmp low w) ≡ true) × (is_lt (nat_cmp w high) ≡ true) → (low ≤ w) × (w < high)
+ranged low high w h = (grind (arith, common_steps, h.0), grind (arith, common_steps, h.1))
 
 module _ (s : List ℕ) where
   -- The first m bits, then the last n.
@@ -68,8 +74,8 @@ module _ (s : List ℕ) where
     byte_whole i at e = ap (λ (p : ℕ). number_at s p 8) e ∙ byte_part i 8 (omega arith) ∙ div-one _
 
     -- Four bytes are 32 bits.
-    four : (i : ℕ) → number_at s (8 * i) 32 ≡ four_bytes s i
-    four i =
+    four : (i : ℕ) (bs : List ℕ) → BytesAt s i 4 bs → number_at s (8 * i) 32 ≡ from_be_bytes w32 bs
+    four i bs h =
         number_append (8 * i) 24 8
         ∙ rw (
           number_append (8 * i) 16 8,
@@ -78,23 +84,28 @@ module _ (s : List ℕ) where
           byte_whole (i + 1) (8 * i + 8) (omega arith),
           byte_whole (i + 2) (8 * i + 16) (omega arith),
           byte_whole (i + 3) (8 * i + 24) (omega arith),
-        )
+          h 0 (omega arith),
+          h 1 (omega arith),
+          h 2 (omega arith),
+          h 3 (omega arith),
+          add-zero,
+        ) (omega arith)
 
     -- The n bits at a place, out of the four bytes from its byte on.
-    pub cut : (at n : ℕ) → n ≤ 24 → four_bytes s (at / 8) / 2 ^ (32 - at % 8 - n) % 2 ^ n ≡ number_at s at n
-    cut at n h =
+    pub cut : (at n : ℕ) → n ≤ 24 → (bs : List ℕ) → BytesAt s (at / 8) 4 bs → from_be_bytes w32 bs / 2 ^ (32 - at % 8 - n) % 2 ^ n ≡ number_at s at n
+    cut at n h bs there =
         let k : ℕ = 32 - at % 8 - n in
         let all : 32 ≡ at % 8 + n + k = omega arith in
         let place : 8 * (at / 8) + at % 8 ≡ at = omega arith in
-        ap (λ (v : ℕ). v / 2 ^ k % 2 ^ n) (sym (four (at / 8)) ∙ ap (number_at s (8 * (at / 8))) all)
+        ap (λ (v : ℕ). v / 2 ^ k % 2 ^ n) (sym (four (at / 8) bs there) ∙ ap (number_at s (8 * (at / 8))) all)
         ∙ middle (8 * (at / 8)) (at % 8) n k
         ∙ ap (λ (p : ℕ). number_at s p n) place
 
     -- ---- sixty-four bits
 
     -- Eight bytes are 64 bits.
-    eight : (i : ℕ) → number_at s (8 * i) 64 ≡ eight_bytes s i
-    eight i =
+    eight : (i : ℕ) (bs : List ℕ) → BytesAt s i 8 bs → number_at s (8 * i) 64 ≡ from_be_bytes w64 bs
+    eight i bs h =
         number_append (8 * i) 56 8
         ∙ rw (
           number_append (8 * i) 48 8,
@@ -111,13 +122,22 @@ module _ (s : List ℕ) where
           byte_whole (i + 5) (8 * i + 40) (omega arith),
           byte_whole (i + 6) (8 * i + 48) (omega arith),
           byte_whole (i + 7) (8 * i + 56) (omega arith),
+          h 0 (omega arith),
+          h 1 (omega arith),
+          h 2 (omega arith),
+          h 3 (omega arith),
+          h 4 (omega arith),
+          h 5 (omega arith),
+          h 6 (omega arith),
+          h 7 (omega arith),
+          add-zero,
         ) (omega arith)
 
     -- The bits from a place on, out of the eight bytes from its byte on, shifted to the front.
-    pub window_holds : (at : ℕ) → Holds s at 57 (eight_bytes s (at / 8) * 2 ^ (at % 8) % 2 ^ 64)
-    window_holds at =
-        let v = eight_bytes s (at / 8) in
-        let whole : Holds s (8 * (at / 8)) 64 v = div-one v ∙ sym (eight (at / 8)) in
+    pub window_holds : (at : ℕ) (bs : List ℕ) → BytesAt s (at / 8) 8 bs → Holds s at 57 (from_be_bytes w64 bs * 2 ^ (at % 8) % 2 ^ 64)
+    window_holds at bs here =
+        let v = from_be_bytes w64 bs in
+        let whole : Holds s (8 * (at / 8)) 64 v = div-one v ∙ sym (eight (at / 8) bs here) in
         let place : 8 * (at / 8) + at % 8 ≡ at = omega arith in
         let there : Holds s (8 * (at / 8) + at % 8) (64 - at % 8) (v * 2 ^ (at % 8) % 2 ^ 64) = shifted (8 * (at / 8)) 64 v whole (omega arith) (at % 8) (omega arith) in
         front at (64 - at % 8) (v * 2 ^ (at % 8) % 2 ^ 64) (subst (λ (p : ℕ). Holds s p (64 - at % 8) (v * 2 ^ (at % 8) % 2 ^ 64)) place there) (omega arith) 57 (omega arith)

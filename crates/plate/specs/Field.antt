@@ -1,10 +1,10 @@
--- What the structs of a field hold: an alternative's digits, and a field's alternatives. Bytes past a count are b'0' and alternatives past one are blank, so
--- that a field is held in one way only. Assumes nothing.
-use Rattle.std.specs.Prelude.{◌≡◌, ℕ, ◌-◌, ◌≤◌, List, map, length, take, drop, replicate}
-use Rattle.laws.specs.Arrays.{Each}
-use Rattle.plate.specs.Plate.{most_alternatives, most_digits}
-use Rattle.plate.specs.declared.Alternative.{Alternative}
-use Rattle.plate.specs.declared.Field.{Field}
+-- What stands in the structs that hold digits and fields (src/held.rt). Bytes past a count are b'0' and alternatives past one are empty, so that
+-- digits, and a field, are held in one way only. Assumes nothing.
+use Rattle.std.specs.Prelude.{ℕ, ◌-◌, ◌≤◌, ◌≡◌, List, [], ◌++◌, length, take, drop, replicate}
+use lib.Seq.{length-take-le}
+use lib.ListN.{take-append-drop}
+use mathlib.Core.Path.{sym, ap, subst, ◌∙◌}
+use Rattle.plate.specs.Plate.{most_digits, most_alternatives}
 
 -- six bytes, of which the first n count and the others are b'0'
 pub record DigitsOk (l : List ℕ) (n : ℕ) : Type 0 where
@@ -12,20 +12,28 @@ pub record DigitsOk (l : List ℕ) (n : ℕ) : Type 0 where
   pub six : length l ≡ most_digits
   pub clear : drop n l ≡ replicate (most_digits - n) 48
 
-abbrev pub AlternativeOk : Alternative → Type 0
-AlternativeOk a = DigitsOk a.digits a.count
+-- "At the end zeros fill each code to six digits."
+abbrev pub padded : List ℕ → List ℕ
+padded ds = ds ++ replicate (most_digits - length ds) 48
 
-abbrev pub alternative_of : Alternative → List ℕ
-alternative_of a = take a.count a.digits
+-- What is held says the bytes and the count again.
+pub held_again : (l : List ℕ) (n : ℕ) → DigitsOk l n → (padded (take n l) ≡ l) × (length (take n l) ≡ n)
+held_again l n ok =
+    let c = length-take-le n l (subst (λ (m : ℕ). n ≤ m) (sym ok.six) ok.small) in
+    (ap (λ (k : ℕ). take n l ++ replicate (most_digits - k) 48) c ∙ ap (λ (r : List ℕ). take n l ++ r) (sym ok.clear) ∙ take-append-drop n l, c)
 
-abbrev pub blank_alternative : Alternative
-blank_alternative = record { digits = replicate most_digits 48; count = 0 }
+-- eight alternatives, of which the first n count and the others are empty
+pub record FieldOk (l : List (List ℕ)) (n : ℕ) : Type 0 where
+  pub small : n ≤ most_alternatives
+  pub long : length l ≡ most_alternatives
+  pub clear : drop n l ≡ replicate (most_alternatives - n) []
 
-pub record FieldOk (f : Field) : Type 0 where
-  pub small : f.count ≤ most_alternatives
-  pub long : length f.alternatives ≡ most_alternatives
-  pub each : Each AlternativeOk (take f.count f.alternatives)
-  pub clear : drop f.count f.alternatives ≡ replicate (most_alternatives - f.count) blank_alternative
+-- all eight, empty ones behind those that are held
+abbrev pub filled : List (List ℕ) → List (List ℕ)
+filled ls = ls ++ replicate (most_alternatives - length ls) []
 
-abbrev pub alternatives_of : Field → List (List ℕ)
-alternatives_of f = map alternative_of (take f.count f.alternatives)
+-- What is held says the alternatives and the count again.
+pub field_again : (l : List (List ℕ)) (n : ℕ) → FieldOk l n → (filled (take n l) ≡ l) × (length (take n l) ≡ n)
+field_again l n ok =
+    let c = length-take-le n l (subst (λ (m : ℕ). n ≤ m) (sym ok.long) ok.small) in
+    (ap (λ (k : ℕ). take n l ++ replicate (most_alternatives - k) []) c ∙ ap (λ (r : List (List ℕ)). take n l ++ r) (sym ok.clear) ∙ take-append-drop n l, c)

@@ -1,12 +1,10 @@
 -- What is noted of a plate's rules while it is accepted: where each stands, and which rules are the group of a small first code point. Assumes nothing.
-use Rattle.std.specs.Prelude.{◌≡◌, ℕ, ◌/◌, ◌%◌, ◌<◌, ◌≤◌, Bool, true, false, not, List, length, take, drop, replicate, ◌==◌, nat_le, nat_lt, slice_index}
+use Rattle.std.specs.Prelude.{◌≡◌, ℕ, ◌/◌, ◌%◌, ◌<◌, ◌≤◌, Bool, true, false, not, List, length, take, drop, replicate, ◌==◌, nat_le, nat_lt, slice_index, Option, OnSome}
 use Rattle.std.proofs.Math.Seq.{slice}
 use Rattle.laws.specs.Lists.{every}
 use Rattle.chars.specs.Letters.{latin_end}
 use Rattle.plate.specs.Plate.{Rule, first_code}
 use Rattle.plate.specs.Read.{many, past, rule_at, rule_end, rule_count, rules_place, count_width}
-use Rattle.plate.specs.declared.Step.{Step}
-use Rattle.plate.specs.declared.Step.TheVariants.{To, Nowhere}
 
 -- ---- a character's group, by numbers of rules
 
@@ -77,9 +75,8 @@ pub record Unnoted (n : ℕ) (places groups : List ℕ) : Type 0 where
   pub clear : groups ≡ replicate noted_characters 0
 
 -- where rules are accepted, they are noted
-abbrev pub NotedTo : Step → List ℕ → ℕ → ℕ → List ℕ → List ℕ → Type 0
-NotedTo (To at) s from n places groups = NotedFrom s from n places groups
-NotedTo Nowhere s from n places groups = Unit {0}
+abbrev pub NotedTo : Option ℕ → List ℕ → ℕ → ℕ → List ℕ → List ℕ → Type 0
+NotedTo r s from n places groups = OnSome r (NotedFrom s from n places groups)
 
 -- where bytes are accepted, their rules are noted
 abbrev pub NotedIf : Bool → ℕ → List ℕ → List ℕ → List ℕ → Type 0

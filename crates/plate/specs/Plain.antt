@@ -1,13 +1,11 @@
--- What the functions on shapes answer: the bits that a part in front of a window takes there, or 0 where it is of another shape. Assumes nothing.
-use Rattle.std.specs.Prelude.{◌≡◌, ℕ, ◌+◌, ◌-◌, ◌*◌, ◌/◌, ◌%◌, ◌<◌, ◌≤◌, List, ◌≢◌}
+-- What the functions on shapes answer: the bits that a part in front of a window takes there, if it is of such a shape. Assumes nothing.
+use Rattle.std.specs.Prelude.{◌≡◌, ℕ, ◌+◌, ◌-◌, ◌*◌, ◌/◌, ◌%◌, ◌<◌, ◌≤◌, List, Option, Some}
 use Rattle.plate.specs.Window.{Holds}
 use Rattle.plate.specs.Answers.{bytes_at, good_text}
-use Rattle.plate.specs.declared.Step.{Step}
-use Rattle.plate.specs.declared.Step.TheVariants.{To}
 
--- b is 0, or a part stands b bits long wherever the first p bits of a window stand
-abbrev pub Takes : (List ℕ → ℕ → Step) → ℕ → ℕ → ℕ → Type 0
-Takes step p w b = (b ≢ 0) → (s : List ℕ) (at : ℕ) → Holds s at p w → To (at + b) ≡ step s at
+-- a part stands b bits long wherever the first p bits of a window stand
+abbrev pub Takes : (List ℕ → ℕ → Option ℕ) → ℕ → ℕ → ℕ → Type 0
+Takes step p w b = (s : List ℕ) (at : ℕ) → Holds s at p w → Some (at + b) ≡ step s at
 
 -- the first k bytes in front of a window pass: bytes that begin with them are good text exactly if those behind them are
 abbrev pub Passes : ℕ → ℕ → Type 0

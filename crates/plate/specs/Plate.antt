@@ -4,6 +4,7 @@ use Rattle.laws.specs.Lists.{between, every, same}
 use Rattle.chars.specs.Utf8.{char_of, code_of, is_text, scalar}
 use Rattle.chars.specs.Digits.{is_alternative}
 use Rattle.chars.specs.Digits as digits
+pub use Rattle.plate.specs.declared.edition.Edition.{Edition}
 
 pub record Folding : Type 0 where
   pub key : ℕ
@@ -27,13 +28,6 @@ pub record Plate : Type 0 where
   pub flag : Bool
   pub foldings : List Folding
   pub rules : List Rule
-
--- An edition: its number, the width of its rule count in bits, the least and the most rules.
-pub record Edition : Type 0 where
-  pub number : ℕ
-  pub width : ℕ
-  pub least : ℕ
-  pub most : ℕ
 
 -- 01: "8 bits edition 1; 10 bits rule count", "at most 512 rules"
 abbrev pub edition1 : Edition

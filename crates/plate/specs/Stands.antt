@@ -1,13 +1,13 @@
--- What an accepted plate says at a place, for the coder: where a rule stands, its pattern's characters, its fields as they are held. No bit is named
+-- What an accepted plate says at a place, for the coder: where a rule stands, its pattern's characters, its fields. No bit is named
 -- above this: a rule's place comes from the place of the one before. Assumes nothing.
-use Rattle.std.specs.Prelude.{◌≡◌, ℕ, zero, suc, ◌+◌, ◌-◌, ◌*◌, ◌/◌, ◌^◌, ◌<◌, ◌≤◌, true, cond, List, [], ◌∷◌, ◌++◌, map, length, drop, replicate, ◌==◌, nat_lt}
+use Rattle.std.specs.Prelude.{◌≡◌, ℕ, zero, suc, ◌+◌, ◌-◌, ◌*◌, ◌/◌, ◌^◌, ◌<◌, ◌≤◌, true, cond, List, [], ◌∷◌, length, drop, ◌==◌, nat_lt}
 use Rattle.chars.specs.Utf8.{char_of, chars_of, code_of, width_of, is_text}
-use Rattle.plate.specs.Plate.{Rule, Folding, most_alternatives, most_digits, good_rule}
+use Rattle.plate.specs.Plate.{Rule, Folding, good_rule}
 use Rattle.plate.specs.Most.{plate_most}
 use Rattle.plate.specs.Read.{pattern_at, start_place, vowel_place, other_place, rule_at, rule_end}
 use Rattle.plate.specs.declared.Letter.{Letter}
-use Rattle.plate.specs.declared.Alternative.{Alternative}
-use Rattle.plate.specs.declared.Field.{Field}
+use Rattle.plate.specs.declared.FieldKind.{FieldKind}
+use Rattle.plate.specs.declared.FieldKind.TheVariants.{Start, Vowel, Other}
 use Rattle.plate.specs.declared.Beginning.{Beginning}
 use Rattle.plate.specs.declared.Beginning.TheVariants.{Is, Not, Unsaid}
 
@@ -65,21 +65,12 @@ first_key (f ∷ more) = f.key
 
 -- ---- fields
 
--- field 0, 1 or 2: start, before vowel, default
-abbrev pub field_of : Rule → ℕ → List (List ℕ)
-field_of r zero = r.start
-field_of r (suc zero) = r.vowel
-field_of r (suc (suc k)) = r.other
+abbrev pub field_of : Rule → FieldKind → List (List ℕ)
+field_of r Start = r.start
+field_of r Vowel = r.vowel
+field_of r Other = r.other
 
-abbrev pub field_place : List ℕ → ℕ → ℕ → ℕ
-field_place s at zero = start_place s at
-field_place s at (suc zero) = vowel_place s at
-field_place s at (suc (suc k)) = other_place s at
-
--- an alternative as it is held: the fill is the digit zero
-abbrev pub held_alternative : List ℕ → Alternative
-held_alternative ds = record { digits = ds ++ replicate (most_digits - length ds) 48; count = length ds }
-
--- a field as it is held: the fill is the empty alternative
-abbrev pub held_field : List (List ℕ) → Field
-held_field f = record { alternatives = map held_alternative f ++ replicate (most_alternatives - length f) (held_alternative []); count = length f }
+abbrev pub field_place : List ℕ → ℕ → FieldKind → ℕ
+field_place s at Start = start_place s at
+field_place s at Vowel = vowel_place s at
+field_place s at Other = other_place s at

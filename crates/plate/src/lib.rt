@@ -9,24 +9,14 @@ pub mod edition; // edition.rt: what a first byte tells, and what a number of ru
 pub mod pattern; // pattern.rt: a pattern's characters
 pub mod note; // note.rt: what is noted of the rules of a plate while it is accepted
 pub mod accept; // accept.rt: which bytes are a plate
+pub mod held; // held.rt: digits, and the alternatives of a field
 pub mod read; // read.rt: what an accepted plate says, part by part
 
 use chars::LATIN;
 
-// An edition: its number, the width of its rule count in bits, and the most rules. Edition 2 has more than edition 1 can have.
-pub const EDITION_1: u32 = 1;
-
-pub const COUNT_BITS_1: usize = 10;
-
-pub const MOST_RULES_1: usize = FEW_RULES;
-
-pub const EDITION_2: u32 = 2;
-
-pub const COUNT_BITS_2: usize = 11;
-
+// The most rules of any edition; and few rules, as most plates have: where one has no more, room for no more is cleared.
 pub const MOST_RULES: usize = 1500;
 
-// Few rules, as most plates have: where one has no more, room for no more is cleared.
 pub const FEW_RULES: usize = 512;
 
 // "pattern 1 to 16 bytes, 1 to 8 alternatives, 0 to 6 digits, [..] 128 foldings"
@@ -48,32 +38,12 @@ pub const FOLDINGS: usize = 32;
 // The characters whose groups are noted: those of the first lowercase table. The group of any other is sought by halves.
 pub const NOTED: usize = LATIN;
 
-// The place behind what was accepted, or nowhere.
-#[derive(Clone, Copy)]
-pub enum Step {
-    To(usize),
-    Nowhere,
-}
-
-// The character in front, its code point and its width in bytes, if there is one and it is not U+0000.
-#[derive(Clone, Copy)]
-pub enum Front {
-    Is(u32, usize),
-    Not,
-}
-
-// The first code point of a pattern that is accepted.
-#[derive(Clone, Copy)]
-pub enum First {
-    Code(u32),
-    None,
-}
-
 // A rule that is accepted: its first code point, its pattern's length in bytes, and the place behind it.
 #[derive(Clone, Copy)]
-pub enum Seen {
-    Good(u32, usize, usize),
-    Wrong,
+pub(crate) struct Seen {
+    code: u32,
+    length: usize,
+    next: usize,
 }
 
 // The rules of a character's group by their numbers: the first, and the one behind the last.
@@ -98,16 +68,10 @@ pub enum Beginning {
     Unsaid,
 }
 
-// An alternative: its ASCII digits, and zeros (as ASCII) behind them.
-#[derive(Clone, Copy)]
-pub struct Alternative {
-    pub digits: [u8; MOST_DIGITS],
-    pub count: u8,
-}
-
-// The alternatives of a field, empty ones behind them.
-#[derive(Clone, Copy)]
-pub struct Field {
-    pub alternatives: [Alternative; MOST_ALTERNATIVES],
-    pub count: usize,
+// A rule's fields: "start", "before vowel", "default".
+#[derive(Clone, Copy, PartialEq, Eq)]
+pub enum FieldKind {
+    Start,
+    Vowel,
+    Other,
 }

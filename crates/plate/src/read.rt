@@ -1,19 +1,16 @@
 // What an accepted plate says, part by part: the flag, the foldings, a rule at its place, its pattern's characters, its fields.
-ghost use Rattle.std.specs.Prelude.{◌≡◌, ℕ, ◌+◌, ◌<◌, ◌≤◌, true, ◌⊎◌, List, length, take};
-ghost use Rattle.chars.specs.Digits.{is_alternative};
+ghost use Rattle.std.specs.Prelude.{◌≡◌, ℕ, ◌+◌, ◌<◌, ◌≤◌, true, List, length, take};
 ghost use Rattle.plate.specs.Plate.{most_bytes};
 ghost use Rattle.plate.specs.Most.{rule_most, farthest};
-ghost use Rattle.plate.specs.Read.{alternative_at, field_end, pattern_at, rule_at, fold_by, rules_place, count_width, accepted, plate_in};
+ghost use Rattle.plate.specs.Read.{field_end, pattern_at, rule_at, fold_by, rules_place, folding_count, count_width, accepted, plate_in};
 ghost use Rattle.plate.specs.Window.{Holds};
-ghost use Rattle.plate.specs.Stands.{Here, Stands, Mark, LetterIs, field_of, field_place, held_alternative, held_field, first_key, beginning};
+ghost use Rattle.plate.specs.Stands.{Here, Stands, Mark, LetterIs, field_of, field_place, first_key, beginning};
 
 use super::bits::{bits, size};
 use super::edition::width_of;
+use super::held::{Field, alternatives_at};
 use super::window::{window, window_in};
-use super::{
-    Alternative, Beginning, CHARACTER_BITS, FOLDING_BITS, FOLDINGS, Field, Front, Letter,
-    MOST_ALTERNATIVES, MOST_DIGITS, pattern,
-};
+use super::{Beginning, CHARACTER_BITS, FOLDING_BITS, FOLDINGS, FieldKind, Letter, pattern};
 
 // The places in the head, but for the width of the rule count: 8 bits edition, the rule count, 8 bits folding count, the folding flag.
 const RULE_COUNT: usize = 8;
@@ -29,28 +26,34 @@ pub fn flag(plate: &[u8]) -> bool
     bits(plate, FLAG + width_of(plate), 1) == 1
 }
 
+// How many foldings there are.
+fn folding_count(plate: &[u8]) -> usize
+    ensures { (result ≡ folding_count (count_width plate.now) plate.now) × (result < 256) }
+{
+    size(plate, FOLDING_COUNT + width_of(plate), 8)
+}
+
 // The first key; past all characters where there is no folding. No character below it is folded.
+// Stays: a bound and no flag, so that one comparison tells, with foldings and without.
 pub fn first_key(plate: &[u8]) -> u32
     ensures { result ≡ first_key (plate_in plate.now).foldings }
 {
-    let n = size(plate, FOLDING_COUNT + width_of(plate), 8);
-    if n < 1 {
-        return 0x110000;
+    if folding_count(plate) == 0 {
+        0x110000
+    } else {
+        bits(plate, FOLDINGS, CHARACTER_BITS)
     }
-    bits(plate, FOLDINGS, CHARACTER_BITS)
 }
 
 // What a character is folded to. Keys rise: below the first there is none, and any other is sought by halves.
+// Stays: foldings are bits in the bytes lent, and no slice, so there is nothing that partition_point could be called on.
 pub fn fold(plate: &[u8], c: u32) -> u32
     requires { accepted plate.now ≡ true }
     ensures { result ≡ fold_by (plate_in plate.now).foldings c }
 {
     let mut at: usize = FOLDINGS;
-    let mut left = size(plate, FOLDING_COUNT + width_of(plate), 8);
-    if left < 1 {
-        return c;
-    }
-    if c < bits(plate, at, CHARACTER_BITS) {
+    let mut left = folding_count(plate);
+    if left == 0 || c < bits(plate, at, CHARACTER_BITS) {
         return c;
     }
     while 1 < left {
@@ -58,15 +61,16 @@ pub fn fold(plate: &[u8], c: u32) -> u32
         let middle = at + FOLDING_BITS * half;
         if c < bits(plate, middle, CHARACTER_BITS) {
             left = half;
-            continue;
+        } else {
+            at = middle;
+            left -= half;
         }
-        at = middle;
-        left -= half;
     }
     if bits(plate, at, CHARACTER_BITS) == c {
-        return bits(plate, at + CHARACTER_BITS, CHARACTER_BITS);
+        bits(plate, at + CHARACTER_BITS, CHARACTER_BITS)
+    } else {
+        c
     }
-    c
 }
 
 // How many rules there are; they stand one behind the other from the first place on.
@@ -87,36 +91,10 @@ fn field_end(plate: &[u8], at: usize) -> usize
         return at + 7 + 4 * (front % 8);
     }
     let mut place = at + 4;
-    let mut left = front / 8;
-    while 0 < left {
-        place = place + 3 + 4 * size(plate, place, 3);
-        left -= 1;
+    for _ in 0..front / 8 {
+        place += 3 + 4 * size(plate, place, 3);
     }
     place
-}
-
-// The place of field 0, 1 or 2 of the rule at a place.
-fn field_place(plate: &[u8], at: usize, which: usize) -> usize
-    requires { Here plate.now at × (which ≤ 2) }
-    ensures { (result ≡ field_place plate.now at which) × (result ≤ at + rule_most) }
-{
-    let start = at + 5 + 8 * size(plate, at, 5);
-    if which == 0 {
-        return start;
-    }
-    let vowel = field_end(plate, start);
-    if which == 1 {
-        return vowel;
-    }
-    field_end(plate, vowel)
-}
-
-// The pattern's length in bytes.
-pub fn pattern_length(plate: &[u8], at: usize) -> usize
-    requires { Here plate.now at }
-    ensures { (result ≡ length (pattern_at plate.now at)) × (0 < result) × (result ≤ most_bytes) }
-{
-    size(plate, at, 5)
 }
 
 // Whether the pattern in front of a window begins the characters ahead.
@@ -135,85 +113,67 @@ fn begins_in(w: u64, word: u64, plain: usize) -> Beginning
     Beginning::Not
 }
 
-// Whether the pattern begins the characters ahead, of which the first `plain` stand as bytes in front of a word: by one comparison, where it has no more.
-// Away from the plate's end no byte is looked for.
-pub fn pattern_begins(plate: &[u8], at: usize, word: u64, plain: usize) -> Beginning
-    requires { Here plate.now at × (plain ≤ 6) }
-    ensures { result ≡ beginning (pattern_at plate.now at) word plain }
-{
-    if at / 8 + 8 <= plate.len() {
-        return begins_in(window_in(plate, at), word, plain);
-    }
-    begins_in(window(plate, at), word, plain)
+// A rule of an accepted plate, by the place where it stands.
+#[derive(Clone, Copy)]
+pub struct RuleAt<'a> {
+    pub bytes: &'a [u8],
+    pub at: usize,
+    pub ghost stands: { Here bytes.now at },
 }
 
-// The character of the pattern that begins at its byte k; ASCII by one read.
-pub fn pattern_char(plate: &[u8], at: usize, k: usize) -> Letter
-    requires { Here plate.now at × Mark plate.now at k × (k < length (pattern_at plate.now at)) }
-    ensures { LetterIs plate.now at k result }
-{
-    let place = at + 5 + 8 * k;
-    let first = bits(plate, place, 8);
-    if first <= 0x7F {
-        return Letter {
-            code: first,
-            width: 1,
-        };
+impl<'a> RuleAt<'a> {
+    // The place of a field.
+    fn field_place(&self, which: FieldKind) -> usize
+        ensures { (result ≡ field_place self.now.bytes.now self.now.at which) × (result ≤ self.now.at + rule_most) }
+    {
+        let start = self.at + 5 + 8 * size(self.bytes, self.at, 5);
+        match which {
+            FieldKind::Start => start,
+            FieldKind::Vowel => field_end(self.bytes, start),
+            FieldKind::Other => field_end(self.bytes, field_end(self.bytes, start)),
+        }
     }
-    let left = size(plate, at, 5) - k;
-    let Front::Is(code, width) = pattern::wide_front(plate, place, left) else {
-        return Letter { code: 0, width: 1 };
-    };
-    Letter { code, width }
-}
 
-// An alternative, all its digits in one read.
-fn alternative_at(plate: &[u8], at: usize) -> Alternative
-    requires { (at ≤ farthest 2) × (is_alternative (alternative_at plate.now at) ≡ true) }
-    ensures { result ≡ held_alternative (alternative_at plate.now at) }
-{
-    let n = size(plate, at, 3);
-    let number = bits(plate, at + 3, 4 * n);
-    let mut digits = [b'0'; MOST_DIGITS];
-    let mut k: usize = 0;
-    while k < n {
-        digits[k] = (48 + (number >> (4 * n - 4 * k - 4)) % 16) as u8;
-        k += 1;
+    // The pattern's length in bytes.
+    pub fn pattern_length(&self) -> usize
+        ensures { (result ≡ length (pattern_at self.now.bytes.now self.now.at)) × (0 < result) × (result ≤ most_bytes) }
+    {
+        size(self.bytes, self.at, 5)
     }
-    Alternative {
-        digits,
-        count: n as u8,
-    }
-}
 
-// The smaller of two.
-fn least(a: usize, b: usize) -> usize
-    ensures { (result ≤ a) × (result ≤ b) × ((result ≡ a) ⊎ (result ≡ b)) }
-{
-    if a <= b { a } else { b }
-}
-
-// The first `most` alternatives of field 0, 1 or 2 (start, before vowel, default) of the rule at a place.
-pub fn field_at(plate: &[u8], at: usize, which: usize, most: usize) -> Field
-    requires { Here plate.now at × (which ≤ 2) }
-    ensures { result ≡ held_field (take most (field_of (rule_at plate.now at) which)) }
-{
-    let from = field_place(plate, at, which);
-    let n = least(size(plate, from, 4), most);
-    let blank = Alternative {
-        digits: [b'0'; MOST_DIGITS],
-        count: 0,
-    };
-    let mut alternatives = [blank; MOST_ALTERNATIVES];
-    let mut place = from + 4;
-    let mut k: usize = 0;
-    while k < n {
-        alternatives[k] = alternative_at(plate, place);
-        place = place + 3 + 4 * size(plate, place, 3);
-        k += 1;
+    // Whether the pattern begins the characters ahead, of which the first `plain` stand as bytes in front of a word: by one comparison, where it has no more.
+    // Away from the plate's end no byte is looked for.
+    pub fn pattern_begins(&self, word: u64, plain: usize) -> Beginning
+        requires { plain ≤ 6 }
+        ensures { result ≡ beginning (pattern_at self.now.bytes.now self.now.at) word plain }
+    {
+        if self.at / 8 + 8 <= self.bytes.len() {
+            return begins_in(window_in(self.bytes, self.at), word, plain);
+        }
+        begins_in(window(self.bytes, self.at), word, plain)
     }
-    Field {
-        alternatives,
-        count: n,
+
+    // The character of the pattern that begins at its byte k; ASCII by one read.
+    pub fn pattern_char(&self, k: usize) -> Letter
+        requires { Mark self.now.bytes.now self.now.at k × (k < length (pattern_at self.now.bytes.now self.now.at)) }
+        ensures { LetterIs self.now.bytes.now self.now.at k result }
+    {
+        let place = self.at + 5 + 8 * k;
+        let first = bits(self.bytes, place, 8);
+        if first <= 0x7F {
+            return Letter {
+                code: first,
+                width: 1,
+            };
+        }
+        let left = size(self.bytes, self.at, 5) - k;
+        pattern::wide_front(self.bytes, place, left).unwrap()
+    }
+
+    // The first `most` alternatives of a field.
+    pub fn field(&self, which: FieldKind, most: usize) -> Field
+        ensures { result ≡ take most (field_of (rule_at self.now.bytes.now self.now.at) which) }
+    {
+        alternatives_at(self.bytes, self.field_place(which), most)
     }
 }

@@ -1,138 +1,128 @@
 // A text is built and the answer written: number, line, length, whether the bytes behind the plate (all of them, if there is none) are as lent, and whether
 // what was written is accepted.
-ghost use Rattle.std.specs.Prelude.{◌≡◌, length};
+ghost use Rattle.std.specs.Prelude.{◌≤◌, IfOk, length};
 
-use book::Flaw;
-use builder::{Built, Fault, build};
+use builder::{BuildError, build};
 use plate::accept::accept;
+use std::{fmt, io};
 use trial::lent::{is_lent_from, lend};
-use trial::say::{hex, labelled, newline, sum, word, yes_or_no};
+use trial::say::{Hex, sum};
 
 // One byte more than the largest plate of edition 1 has; no text's plate is longer.
-pub(crate) fn plate_buffer() -> [u8; 51429]
-    ensures { 51429 ≡ length result }
-{
-    [0; 51429]
-}
-
-fn number_of_flaw(flaw: Flaw) -> usize {
-    match flaw {
-        Flaw::EmptyPattern => 4,
-        Flaw::LongPattern => 5,
-        Flaw::ManyAlternatives => 6,
-        Flaw::NotDigits => 7,
-        Flaw::TooMany => 8,
-    }
-}
-
-fn number_of(fault: Fault) -> usize {
-    match fault {
-        Fault::NotRecognised => 3,
-        Fault::Flawed(flaw) => number_of_flaw(flaw),
-    }
-}
+const ROOM: usize = 51429;
 
 // 01's three values.
-fn show_values(number: usize, line: usize, length: usize) {
-    labelled(b" -> ", number);
-    labelled(b" line ", line);
-    labelled(b" length ", length);
+#[derive(Clone, Copy)]
+struct Answer {
+    number: u64,
+    line: usize,
+    length: usize,
 }
 
-fn show_built(built: Built) {
-    match built {
-        Built::Plate(length) => show_values(0, 0, length),
-        Built::LongText => show_values(1, 0, 0),
-        Built::NotText => show_values(2, 0, 0),
-        Built::Faulty(fault, line) => show_values(number_of(fault), line, 0),
-        Built::ShortBuffer => show_values(9, 0, 0),
+impl Answer {
+    fn refused(number: u64, line: usize) -> Answer {
+        Answer {
+            number,
+            line,
+            length: 0,
+        }
+    }
+
+    fn of(built: Result<usize, BuildError>) -> Answer {
+        match built {
+            Ok(length) => Answer {
+                number: 0,
+                line: 0,
+                length,
+            },
+            Err(BuildError::LongText) => Answer::refused(1, 0),
+            Err(BuildError::NotText) => Answer::refused(2, 0),
+            Err(BuildError::Faulty(fault, line)) => Answer::refused(fault.number(), line),
+            Err(BuildError::ShortBuffer) => Answer::refused(9, 0),
+        }
     }
 }
 
-fn length_of(built: Built) -> usize {
-    match built {
-        Built::Plate(length) => length,
-        _ => 0,
+impl fmt::Display for Answer {
+    fn fmt<W: fmt::Write>(&self, f: &mut fmt::Formatter<W>) -> fmt::Result {
+        write!(
+            f,
+            "{} line {} length {}",
+            self.number, self.line, self.length
+        )
     }
 }
 
-fn show_head(name: &[u8], text: usize, buffer: usize) {
-    word(name);
-    labelled(b"; ", text);
-    labelled(b" into ", buffer);
+// A rule text, and the name that is written for it.
+#[derive(Clone, Copy)]
+pub(crate) struct Text<'a> {
+    pub name: &'a [u8],
+    pub bytes: &'a [u8],
 }
 
-fn show_rest(buffer: &[u8], n: usize) {
-    yes_or_no(
-        is_lent_from(buffer, n),
-        b", rest as lent",
-        b", REST CHANGED",
-    );
-}
-
-// The plate's length, 0 where there is none.
-fn ask(name: &[u8], text: &[u8], flag: bool, buffer: &mut [u8]) -> usize {
-    lend(buffer);
-    let built = build(text, flag, buffer);
-    let n = length_of(built);
-    show_head(name, text.len(), buffer.len());
-    show_built(built);
-    show_rest(buffer, n);
-    n
-}
-
-// The answer alone, with n bytes lent.
-fn show_into(name: &[u8], text: &[u8], n: usize) {
-    let mut buffer = plate_buffer();
-    if n <= 51429 {
-        ask(name, text, true, &mut buffer[0..n]);
+impl Text<'_> {
+    // Builds it into a room as lent, and writes the answer; the plate, which has no byte where there is none.
+    fn build<'a>(self, rt: &impl Print, flag: bool, room: &'a mut [u8]) -> io::Result<&'a [u8]>
+        ensures { IfOk result (λ plate. length plate.now ≤ length room.old) }
+    {
+        lend(room);
+        let answer = Answer::of(build(self.bytes, flag, room));
+        let rest = if is_lent_from(room, answer.length) {
+            "rest as lent"
+        } else {
+            "REST CHANGED"
+        };
+        rt.write_all(self.name)?;
+        print!(rt;
+            "; {} into {} -> {answer}, {rest}",
+            self.bytes.len(),
+            room.len()
+        )?;
+        Ok(room.get(..answer.length).unwrap_or(&[]))
     }
-    newline();
-}
 
-pub(crate) fn show(name: &[u8], text: &[u8]) {
-    show_into(name, text, 51429);
-}
+    // The answer alone.
+    fn show_into(self, rt: &impl Print, room: &mut [u8]) -> io::Result<()> {
+        self.build(rt, true, room)?;
+        println!(rt)
+    }
 
-fn show_accepted(plate: &[u8]) {
-    yes_or_no(accept(plate), b", accepted", b", NOT ACCEPTED");
-}
+    pub(crate) fn show(self, rt: &impl Print) -> io::Result<()> {
+        self.show_into(rt, &mut [0; ROOM])
+    }
 
-pub(crate) fn show_sum(plate: &[u8]) {
-    word(b" sum ");
-    sum(plate);
-    newline();
-}
+    // The answer and the plate, byte by byte.
+    pub(crate) fn show_plate(self, rt: &impl Print, flag: bool) -> io::Result<()> {
+        let mut room = [0; ROOM];
+        let plate = self.build(rt, flag, &mut room)?;
+        println!(rt; ", {}\n {}", verdict(plate), Hex(plate))
+    }
 
-// A buffer of just the plate's length, and one of a byte less.
-fn show_edge(text: &[u8], n: usize) {
-    if 0 < n {
-        show_into(b"  just so many", text, n);
-        show_into(b"  one less", text, n - 1);
+    // The answer and the plate's sum; then the answers into just so many bytes, and into one less.
+    pub(crate) fn show_edges(self, rt: &impl Print) -> io::Result<()> {
+        let mut room = [0; ROOM];
+        let plate = self.build(rt, true, &mut room)?;
+        println!(rt; ", {} sum {:08x}", verdict(plate), sum(plate))?;
+        let n = plate.len();
+        if n > 0 {
+            self.named(b"  just so many").show_into(rt, &mut room[..n])?;
+            self.named(b"  one less").show_into(rt, &mut room[..n - 1])?;
+        }
+        Ok(())
+    }
+
+    fn named<'a>(&'a self, name: &'a [u8]) -> Text<'a> {
+        Text {
+            name,
+            bytes: self.bytes,
+        }
     }
 }
 
-fn show_bytes(plate: &[u8]) {
-    word(b"\n ");
-    hex(plate);
-    newline();
-}
-
-fn show_written(letter: u8, text: &[u8], plate: &[u8]) {
-    show_accepted(plate);
-    if letter == b'r' {
-        show_sum(plate);
-        show_edge(text, plate.len());
-        return;
-    }
-    show_bytes(plate);
-}
-
-// The answer and, by the letter, the plate's sum and buffers at the edge (r), or the plate byte by byte, the flag off (o) or on.
-pub(crate) fn show_plate(letter: u8, name: &[u8], text: &[u8]) {
-    let mut buffer = plate_buffer();
-    let n = ask(name, text, letter != b'o', &mut buffer);
-    if n <= 51429 {
-        show_written(letter, text, &buffer[0..n]);
+fn verdict(plate: &[u8]) -> &'static str {
+    if accept(plate) {
+        "accepted"
+    } else {
+        "NOT ACCEPTED"
     }
 }

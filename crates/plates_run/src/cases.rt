@@ -1,143 +1,163 @@
 // The cases of a file, a line each: a letter, a title, a semicolon, a space, bytes. Some lines lay bytes that stand in front of those of the lines below.
-ghost use Rattle.std.specs.Prelude.{◌≡◌, ◌≤◌, length};
+ghost use Rattle.std.specs.Prelude.{◌≤◌, length};
 
-use super::{ask, items, judge};
-use std::num::wrapping_add_u8;
+use super::ask::Text;
+use super::{items, judge};
+use std::io;
+use std::ops::Range;
 use std::rt::Files;
-use trial::case::bytes_of;
-use trial::lines::{end_of, field_start, letter_of, next_line, number_at};
+use trial::case::Case;
+use trial::file::read;
 use trial::say::fault;
 
 // One byte more than a rule text may have.
-fn text_buffer() -> [u8; 65537]
-    ensures { 65537 ≡ length result }
-{
-    [0; 65537]
+const ROOM: usize = 65537;
+
+// What a line does.
+#[derive(Clone, Copy)]
+enum Step {
+    Comment,
+    // Nothing is laid any more.
+    Clear,
+    // Its bytes are laid once for each number, counted or as they are.
+    Lay { is_counted: bool },
+    Show(What),
+}
+
+// What is shown of the bytes laid and those of a line.
+#[derive(Clone, Copy)]
+enum What {
+    Items,
+    Field,
+    Answer,
+    Plate { flag: bool },
+    Edges,
+    Verdict,
+    Bits,
+}
+
+impl Step {
+    fn of(letter: u8) -> Option<Step> {
+        let what = match letter {
+            b'#' => return Some(Step::Comment),
+            b'c' => return Some(Step::Clear),
+            b'm' => return Some(Step::Lay { is_counted: false }),
+            b'k' => return Some(Step::Lay { is_counted: true }),
+            b'i' => What::Items,
+            b'f' => What::Field,
+            b't' => What::Answer,
+            b'p' => What::Plate { flag: true },
+            b'o' => What::Plate { flag: false },
+            b'r' => What::Edges,
+            b'j' => What::Verdict,
+            b'b' => What::Bits,
+            _ => return None,
+        };
+        Some(Step::Show(what))
+    }
+}
+
+impl What {
+    fn show(self, rt: &impl Print, title: &[u8], bytes: &mut [u8]) -> io::Result<()> {
+        let text = Text { name: title, bytes };
+        match self {
+            What::Items => items::show(rt, bytes),
+            What::Field => items::show_field(rt, bytes),
+            What::Answer => text.show(rt),
+            What::Plate { flag } => text.show_plate(rt, flag),
+            What::Edges => text.show_edges(rt),
+            What::Verdict => judge::show(rt, title, bytes),
+            What::Bits => judge::show_bits(rt, bytes),
+        }
+    }
 }
 
 fn add(bytes: &mut [u8], at: usize, n: usize) {
-    if at < bytes.len() {
-        bytes[at] = wrapping_add_u8(bytes[at], (n % 256) as u8);
+    if let Some(byte) = bytes.get_mut(at) {
+        *byte = byte.wrapping_add((n % 256) as u8);
     }
 }
 
-// Adds a number to two bytes that count. A field that is no number reads as 100000.
-fn count(line: &[u8], bytes: &mut [u8], k: usize) {
-    let place = number_at(line, 3);
-    let base = number_at(line, 4);
-    if base % 100000 == 0 {
-        fault(line);
-        return;
-    }
-    if place == 100000 {
-        fault(line);
-        return;
-    }
-    add(bytes, place, k / base);
-    add(bytes, place + 1, k % base);
+// Adds a number to two bytes that count; none, if the line does not say where and in which base.
+fn count(case: Case, bytes: &mut [u8], k: usize) -> Option<()> {
+    let place = case.number(3)?;
+    let base = case.number(4)?;
+    add(bytes, place, k.checked_div(base)?);
+    add(bytes, place + 1, k.checked_rem(base)?);
+    Some(())
 }
 
-// The bytes of a line, counted if its letter says so, and how many they are.
-fn lay(line: &[u8], bytes: &mut [u8], k: usize) -> usize
-    ensures { result ≤ length bytes.new }
-{
-    let n = bytes_of(line, bytes);
-    if bytes.len() < n {
-        fault(line);
-        return 0;
-    }
-    if letter_of(line) == b'k' {
-        count(line, bytes, k);
-    }
-    n
+// From which number on and below which a line is laid.
+fn range(case: Case) -> Option<Range<usize>> {
+    let from = case.number(1)?;
+    let to = case.number(2)?;
+    if from <= to { Some(from..to) } else { None }
 }
 
-// Whether numbers rise from one to another. A field that is no number reads as 100000.
-fn is_range(from: usize, to: usize) -> bool {
-    if to < from {
-        return false;
-    }
-    to < 100000
+// Bytes laid one behind the other.
+// Stays: with no heap they need a room and the place where they end, which this type alone sets.
+#[derive(Drop)]
+struct Laid<'a> {
+    room: &'a mut [u8],
+    end: usize,
+    ghost in_room: { end ≤ length room.now },
 }
 
-// The bytes of a line once for each number, behind those that are laid; how many they are then.
-fn lay_times(line: &[u8], text: &mut [u8], at: usize) -> usize
-    requires { at ≤ length text.old }
-    ensures { result ≤ length text.new }
-{
-    let from = number_at(line, 1);
-    let to = number_at(line, 2);
-    if !is_range(from, to) {
-        fault(line);
-        return at;
-    }
-    let mut end = at;
-    for k in from..to {
-        end += lay(line, &mut text[end..], k);
-    }
-    end
-}
-
-fn run_letter(letter: u8, title: &[u8], bytes: &[u8]) {
-    match letter {
-        b'i' => items::show(bytes),
-        b'f' => items::show_field(bytes),
-        b'p' | b'o' | b'r' => ask::show_plate(letter, title, bytes),
-        b't' => ask::show(title, bytes),
-        _ => judge::show(title, bytes),
-    }
-}
-
-fn run_bytes(line: &[u8], bytes: &[u8]) {
-    let start = field_start(line, 1);
-    let end = end_of(line, start, b';');
-    run_letter(letter_of(line), &line[start..end], bytes);
-}
-
-// A line's case, on its bytes behind those that are laid.
-fn run_case(line: &[u8], text: &mut [u8], at: usize)
-    requires { at ≤ length text.old }
-{
-    let end = at + lay(line, &mut text[at..], 0);
-    if letter_of(line) == b'b' {
-        judge::show_bits(&mut text[0..end]);
-        return;
-    }
-    run_bytes(line, &text[0..end]);
-}
-
-// How many bytes are laid after a line.
-fn run_line(line: &[u8], text: &mut [u8], at: usize) -> usize
-    requires { at ≤ length text.old }
-    ensures { result ≤ length text.new }
-{
-    match letter_of(line) {
-        b'#' => {}
-        b'c' => {
-            return 0;
+impl Laid<'_> {
+    // Writes the bytes of a line behind those laid, counted if there is a number; where they end. A line that has another form is shown.
+    fn write(&mut self, rt: &impl Print, case: Case, number: Option<usize>) -> usize
+        ensures { result ≤ length self.new.room.now }
+    {
+        let rest = &mut self.room[self.end..];
+        let Some(bytes) = case.bytes(rest) else {
+            fault(rt, case.line);
+            return self.end;
+        };
+        let end = self.end + bytes.len();
+        if let Some(k) = number
+            && count(case, rest, k).is_none()
+        {
+            fault(rt, case.line);
         }
-        b'm' | b'k' => {
-            return lay_times(line, text, at);
+        end
+    }
+
+    fn lay(&mut self, rt: &impl Print, case: Case, is_counted: bool) {
+        let Some(numbers) = range(case) else {
+            fault(rt, case.line);
+            return;
+        };
+        for k in numbers {
+            self.end = self.write(rt, case, is_counted.then_some(k));
         }
-        b'i' | b'f' | b'p' | b'o' | b'r' | b't' | b'j' | b'b' => run_case(line, text, at),
-        _ => fault(line),
     }
-    at
+
+    fn show(&mut self, rt: &impl Print, case: Case, what: What) {
+        let end = self.write(rt, case, None);
+        let bytes = &mut self.room[..end];
+        // What cannot be written is missed by who compares what was.
+        let _ = what.show(rt, case.title(), bytes);
+    }
+
+    fn run_line(&mut self, rt: &impl Print, case: Case) {
+        match case.letter().and_then(Step::of) {
+            Some(Step::Comment) => {}
+            Some(Step::Clear) => self.end = 0,
+            Some(Step::Lay { is_counted }) => self.lay(rt, case, is_counted),
+            Some(Step::Show(what)) => self.show(rt, case, what),
+            None => fault(rt, case.line),
+        }
+    }
 }
 
-fn run_lines(file: &[u8], text: &mut [u8]) {
-    let mut laid: usize = 0;
-    let mut at: usize = 0;
-    while at < file.len() {
-        let end = end_of(file, at, b'\n');
-        laid = run_line(&file[at..end], text, laid);
-        at = next_line(file, at);
+pub(crate) fn run(rt: &(impl Files + Print + Eprint), path: &str) {
+    let mut room = [0; 65536];
+    let file = read(rt, path, &mut room);
+    let mut laid = Laid {
+        room: &mut [0; ROOM],
+        end: 0,
+    };
+    for line in file.split_inclusive(|byte| *byte == b'\n') {
+        laid.run_line(rt, Case::new(line));
     }
-}
-
-pub(crate) fn run(rt: &impl Files, path: &[u8]) {
-    let mut file = io::large_buffer();
-    let n = trial::file::read(rt, path, &mut file);
-    let mut text = text_buffer();
-    run_lines(&file[0..n], &mut text);
 }

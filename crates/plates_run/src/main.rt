@@ -13,14 +13,17 @@ mod ask; // ask.rt: a text is built, and the answer written
 mod judge; // judge.rt: bytes are judged, whole or one bit at a time
 mod hand; // hand.rt: plates written bit by bit
 
+use hand::Edition;
+
+// What cannot be written is missed by who compares what was.
 fn main(rt: HostRuntime) {
-    cases::run(&rt, b"items.txt");
-    cases::run(&rt, b"worked.txt");
-    hand::largest_1();
-    hand::largest_2();
-    cases::run(&rt, b"texts.txt");
-    cases::run(&rt, b"plates.txt");
-    hand::many_foldings(128);
-    hand::many_foldings(129);
-    cases::run(&rt, b"bits.txt");
+    cases::run(&rt, "items.txt");
+    cases::run(&rt, "worked.txt");
+    let _ = hand::show_largest(&rt, &mut [0; 51429], Edition::One, 512);
+    let _ = hand::show_largest(&rt, &mut [0; 149365], Edition::Two, 1500);
+    cases::run(&rt, "texts.txt");
+    cases::run(&rt, "plates.txt");
+    let _ = hand::show_foldings(&rt, 128);
+    let _ = hand::show_foldings(&rt, 129);
+    cases::run(&rt, "bits.txt");
 }

@@ -24,7 +24,8 @@ use Rattle.ward.proofs.Digits.{codes_six}
 use Rattle.coder.proofs.Wider.{uses_wider}
 use Rattle.promises.specs.Demands.{code_at, Writes, ListsChoices, EncodesFirst, WiderPlate, PlatesKeep, GivenAgain}
 use Rattle.promises.proofs.CodedWhen.{plate_read, read_plate_lem}
-use Rattle.promises.proofs.Places.{in_place, place_in, so_long}
+use Rattle.coder.proofs.Joined.{length_joined}
+use Rattle.promises.proofs.Places.{in_place, place_in}
 use Rattle.promises.proofs.Gives as goal
 use Rattle.promises.proofs.Gives.{six, list_gives, one_plate}
 
@@ -132,7 +133,7 @@ module _ (plate name lent more : List ℕ) (bytes : Bytes plate) where
       let w = list_gives plate name more bytes (ap (λ (c : Coded). c.number) is') in
       let counted : a.count ≡ length cs = ap (λ (c : Coded). c.count) is in
       let good = (read_plate_lem plate g.0 bytes g.2.read).0 in
-      let long = so_long cs (six cs (subst (Each SixDigits) (sym g.2.all) (codes_six g.0.rules (good_is g.0 good).rules (prepared g.0 name)))) in
+      let long = length_joined cs (six cs (subst (Each SixDigits) (sym g.2.all) (codes_six g.0.rules (good_is g.0 good).rules (prepared g.0 name)))) in
       let front : (l : List ℕ) → take (7 * a.count - 1) (joined cs ++ l) ≡ joined cs = λ l. take_at (joined cs) l (7 * a.count - 1) (long ∙ ap (λ (m : ℕ). 7 * m - 1) (sym counted)) in
       let count : b.count ≡ a.count = ap (λ (c : Coded). c.count) is' ∙ sym counted in
       record {

@@ -5,11 +5,11 @@ use mathlib.Core.Logic.{inl, inr}
 use mathlib.Core.List.{List, [], ◌∷◌, ◌++◌, append_assoc}
 use native.Mathlib.Omega.{arith}
 use lib.ListN.{length, take, drop, get_or, length-append, length-drop}
-use lib.Seq.{take_all, drop_at, drop-drop, get_or-drop, get_or-append-add}
+use lib.Seq.{drop_at, drop-drop, get_or-drop, get_or-append-add}
 use Rattle.laws.specs.Lists.{In}
 use Rattle.laws.specs.Arrays.{Each}
 use Rattle.coder.specs.Answer.{joined}
-use Rattle.coder.proofs.Joined.{Six, joined_length}
+use Rattle.coder.proofs.Joined.{Six, length_joined}
 use Rattle.ward.proofs.Front.{front, others}
 
 -- ---- members and places
@@ -60,17 +60,13 @@ bar_placed (c ∷ d ∷ cs) six rest (suc k) h =
 
 -- ---- and the lent bytes behind them
 
--- A bar fewer than codes.
-pub so_long : (cs : List (List ℕ)) → Six cs → length (joined cs) ≡ 7 * length cs - 1
-so_long cs six = ap (λ (l : List (List ℕ)). length (joined l)) (sym (take_all (length cs) cs (omega arith))) ∙ joined_length cs six (length cs) [] (omega arith)
-
 module _ (cs : List (List ℕ)) (six : Six cs) (lent : List ℕ) (fits : 7 * length cs - 1 ≤ length lent) where
   pub as_lent : drop (7 * length cs - 1) (joined cs ++ drop (length (joined cs)) lent) ≡ drop (7 * length cs - 1) lent
-  as_lent = drop_at (joined cs) (drop (length (joined cs)) lent) (7 * length cs - 1) (so_long cs six) ∙ ap (λ (n : ℕ). drop n lent) (so_long cs six)
+  as_lent = drop_at (joined cs) (drop (length (joined cs)) lent) (7 * length cs - 1) (length_joined cs six) ∙ ap (λ (n : ℕ). drop n lent) (length_joined cs six)
 
   pub as_long : length (joined cs ++ drop (length (joined cs)) lent) ≡ length lent
   as_long =
-      let n = so_long cs six in
+      let n = length_joined cs six in
       length-append (joined cs) (drop (length (joined cs)) lent)
       ∙ ap (λ (m : ℕ). length (joined cs) + m) (length-drop (length (joined cs)) lent)
       ∙ omega arith

@@ -31,7 +31,7 @@ use Rattle.zengilvar.specs.declared.DmWritten.{DmWritten}
 use Rattle.promises.specs.Ward.{Unbroken, closed, NamesAre, WardRefuses, WardExclusive, lines_of, WardWrites, WardGives, WardLists, WardAlike}
 use Rattle.promises.proofs.CodedWhen.{read_plate_lem, is_plate, no_plate}
 use Rattle.promises.proofs.OnlyWhen.{check_only}
-use Rattle.promises.proofs.Places.{so_long}
+use Rattle.coder.proofs.Joined.{length_joined}
 use Rattle.promises.proofs.Gives.{six}
 
 -- ---- when each number comes back
@@ -118,7 +118,7 @@ line_unbroken plate name lent bytes = go (list_answer plate name lent).number re
         let good = (read_plate_lem plate g.0 bytes g.2.read).0 in
         let digits = subst (Each SixDigits) (sym g.2.all) (codes_six g.0.rules (good_is g.0 good).rules (prepared g.0 name)) in
         let cs = g.1 in
-        subst Unbroken (sym (ap line_of g.2.written ∙ take_at (joined cs) (drop (length (joined cs)) lent) (7 * length cs - 1) (so_long cs (six cs digits)))) (joined_unbroken cs digits)
+        subst Unbroken (sym (ap line_of g.2.written ∙ take_at (joined cs) (drop (length (joined cs)) lent) (7 * length cs - 1) (length_joined cs (six cs digits)))) (joined_unbroken cs digits)
     go (suc n) e = subst Unbroken (refused (list_answer plate name lent) n e) (refusal_unbroken (list_answer plate name lent).number)
 
 given_unbroken : (plate name : List ℕ) → Bytes plate → Unbroken (given plate name)

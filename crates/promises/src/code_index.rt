@@ -3,10 +3,12 @@ ghost use Rattle.zengilvar.specs.Index.{indexed};
 ghost use Rattle.zengilvar.specs.Ward.{wrote};
 ghost use Rattle.promises.specs.Index.{MakeRefuses, MakeGives, AddRefuses, FindRefuses, Looks, FolderFound, AddsAfresh, FoldersKept};
 
+use super::Pair;
 use zengilvar::code_index::{dm_index_add, dm_index_find, dm_index_make};
 use zengilvar::{DmIndexed, DmWritten};
 
 // Numbers, and what is made.
+// Stays: what the call takes, one by one, is what C gives.
 fn makes_index(plate: &[u8], names: &[u8], index: &mut [u8], report: &mut [u8]) -> DmIndexed
     ensures make_refuses { MakeRefuses plate.now names.now (record { index = index.old; report = report.old }) (indexed result index.new report.new) }
     ensures make_gives { MakeGives plate.now names.now (record { index = index.old; report = report.old }) (indexed result index.new report.new) }
@@ -15,6 +17,7 @@ fn makes_index(plate: &[u8], names: &[u8], index: &mut [u8], report: &mut [u8]) 
 }
 
 // Numbers of adding.
+// Stays: index and report are C's, each with its length behind it.
 fn adds_name(
     plate: &[u8],
     name: &[u8],
@@ -38,8 +41,8 @@ fn finds(plate: &[u8], index: &[u8], name: &[u8], out: &mut [u8]) -> DmWritten
 // What make and find answer.
 #[derive(Clone, Copy)]
 struct MadeAndFound {
-    pub made: DmIndexed,
-    pub found: DmWritten,
+    made: DmIndexed,
+    found: DmWritten,
 }
 
 // An index made, and looked up by the same plate.
@@ -57,18 +60,15 @@ fn makes_and_finds(
     let made = dm_index_make(plate, names, index, report);
     let used = made.index_length as usize;
     let found = dm_index_find(plate, &index[..used], name, out);
-    MadeAndFound {
-        made: made,
-        found: found,
-    }
+    MadeAndFound { made, found }
 }
 
 // What making, adding and making afresh answer.
 #[derive(Clone, Copy)]
 struct Thrice {
-    pub made: DmIndexed,
-    pub added: DmIndexed,
-    pub afresh: DmIndexed,
+    made: DmIndexed,
+    added: DmIndexed,
+    afresh: DmIndexed,
 }
 
 // An index made, a name added, and all names made afresh.
@@ -90,17 +90,10 @@ fn adds_afresh(
     let added = dm_index_add(plate, name, index, used, report, noted);
     let afresh = dm_index_make(plate, wider, index2, report2);
     Thrice {
-        made: made,
-        added: added,
-        afresh: afresh,
+        made,
+        added,
+        afresh,
     }
-}
-
-// What two makes and two lookups answer.
-#[derive(Clone, Copy)]
-struct TwoFinds {
-    pub first: MadeAndFound,
-    pub second: MadeAndFound,
 }
 
 // One list of names indexed and looked up by two plates.
@@ -115,13 +108,10 @@ fn folders_kept(
     name: &[u8],
     out: &mut [u8],
     out2: &mut [u8],
-) -> TwoFinds
+) -> Pair<MadeAndFound>
     ensures { FoldersKept plate.now wide.now result.first.made.number (wrote result.first.found out.new) (indexed result.second.made index2.new report2.new) (wrote result.second.found out2.new) }
 {
     let first = makes_and_finds(plate, names, index, report, name, out);
     let second = makes_and_finds(wide, names, index2, report2, name, out2);
-    TwoFinds {
-        first: first,
-        second: second,
-    }
+    Pair { first, second }
 }

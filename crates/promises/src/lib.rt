@@ -16,6 +16,7 @@ mod ward_list; // ward_list.rt: M-103, a whole ward list in one call
 mod code_index; // code_index.rt: M-108, a code index beside it
 
 // Demands 1 and 2, of build.
+// Stays: what the call takes, one by one, is what C gives.
 fn builds(text: &[u8], folding: bool, plate: &mut [u8]) -> DmBuilt
     ensures build_refuses { BuildRefuses text.now folding plate.old (built result plate.new) }
     ensures build_gives { BuildGives text.now folding plate.old (built result plate.new) }
@@ -24,6 +25,7 @@ fn builds(text: &[u8], folding: bool, plate: &mut [u8]) -> DmBuilt
 }
 
 // Demands 1, 2 and 3a, of list.
+// Stays: what the call takes, one by one, is what C gives.
 fn lists(plate: &[u8], name: &[u8], out: &mut [u8]) -> DmCoded
     ensures list_refuses { ListRefuses plate.now name.now out.old (coded result out.new) }
     ensures list_gives { ListGives plate.now name.now out.old (coded result out.new) }
@@ -40,35 +42,36 @@ fn encodes(plate: &[u8], name: &[u8], out: &mut [u8]) -> DmCoded
     dm_encode(plate, name, out)
 }
 
-// What two calls answer.
+// What two calls answer, each one of the same kind.
 #[derive(Clone, Copy)]
-struct Both {
-    pub first: DmCoded,
-    pub second: DmCoded,
+struct Pair<T> {
+    first: T,
+    second: T,
 }
 
 // Demand 3b: list, and encode into another buffer.
-fn encodes_first(plate: &[u8], name: &[u8], out: &mut [u8], other: &mut [u8]) -> Both
+fn encodes_first(plate: &[u8], name: &[u8], out: &mut [u8], other: &mut [u8]) -> Pair<DmCoded>
     ensures { EncodesFirst (coded result.first out.new) other.old (coded result.second other.new) }
 {
     let first = dm_list(plate, name, out);
     let second = dm_encode(plate, name, other);
-    Both {
-        first: first,
-        second: second,
-    }
+    Pair { first, second }
 }
 
 // Demand 3c: one name listed by two plates.
-fn plates_keep(plate: &[u8], wide: &[u8], name: &[u8], out: &mut [u8], more: &mut [u8]) -> Both
+// Stays: the two calls are all that is promised of, and one function for several promises would fall as a whole under tests/weakened.
+fn plates_keep(
+    plate: &[u8],
+    wide: &[u8],
+    name: &[u8],
+    out: &mut [u8],
+    more: &mut [u8],
+) -> Pair<DmCoded>
     ensures { PlatesKeep plate.now wide.now (coded result.first out.new) (coded result.second more.new) }
 {
     let first = dm_list(plate, name, out);
     let second = dm_list(wide, name, more);
-    Both {
-        first: first,
-        second: second,
-    }
+    Pair { first, second }
 }
 
 // Demand 3c: one name listed by the plates of two texts. Where a build is refused its plate has no byte, and the list is refused too.
@@ -81,29 +84,24 @@ fn texts_keep(
     name: &[u8],
     out: &mut [u8],
     more: &mut [u8],
-) -> Both
+) -> Pair<DmCoded>
     ensures { TextsKeep text.now wide.now (coded result.first out.new) (coded result.second more.new) }
 {
-    let b = dm_build(text, folding, plate);
-    let c = dm_build(wide, folding, plate2);
-    let first = dm_list(&plate[..b.length as usize], name, out);
-    let second = dm_list(&plate2[..c.length as usize], name, more);
-    Both {
-        first: first,
-        second: second,
-    }
+    let one = dm_build(text, folding, plate);
+    let two = dm_build(wide, folding, plate2);
+    let first = dm_list(&plate[..one.length as usize], name, out);
+    let second = dm_list(&plate2[..two.length as usize], name, more);
+    Pair { first, second }
 }
 
 // Demand 3d: one name listed into two buffers.
-fn given_again(plate: &[u8], name: &[u8], out: &mut [u8], longer: &mut [u8]) -> Both
+// Stays: the two calls are all that is promised of, and one function for several promises would fall as a whole under tests/weakened.
+fn given_again(plate: &[u8], name: &[u8], out: &mut [u8], longer: &mut [u8]) -> Pair<DmCoded>
     ensures { GivenAgain out.old longer.old (coded result.first out.new) (coded result.second longer.new) }
 {
     let first = dm_list(plate, name, out);
     let second = dm_list(plate, name, longer);
-    Both {
-        first: first,
-        second: second,
-    }
+    Pair { first, second }
 }
 
 // M-105: list gives each code once.
@@ -127,35 +125,41 @@ fn encodes_as_before(plate: &[u8], name: &[u8], out: &mut [u8]) -> DmCoded
 }
 
 // M-107: one name listed by a plate and by that plate without its unused rules.
-fn lists_without(plate: &[u8], less: &[u8], name: &[u8], out: &mut [u8], more: &mut [u8]) -> Both
+// Stays: the two calls are all that is promised of, and one function for several promises would fall as a whole under tests/weakened.
+fn lists_without(
+    plate: &[u8],
+    less: &[u8],
+    name: &[u8],
+    out: &mut [u8],
+    more: &mut [u8],
+) -> Pair<DmCoded>
     ensures { UnusedAlike plate.now less.now out.old more.old (coded result.first out.new) (coded result.second more.new) }
 {
     let first = dm_list(plate, name, out);
     let second = dm_list(less, name, more);
-    Both {
-        first: first,
-        second: second,
-    }
+    Pair { first, second }
 }
 
-fn encodes_without(plate: &[u8], less: &[u8], name: &[u8], out: &mut [u8], more: &mut [u8]) -> Both
+// Stays: what is promised is the call that stands in the body, so that list and encode have a function each, and tests/weakened sees each fall.
+fn encodes_without(
+    plate: &[u8],
+    less: &[u8],
+    name: &[u8],
+    out: &mut [u8],
+    more: &mut [u8],
+) -> Pair<DmCoded>
     ensures { UnusedAlike plate.now less.now out.old more.old (coded result.first out.new) (coded result.second more.new) }
 {
     let first = dm_encode(plate, name, out);
     let second = dm_encode(less, name, more);
-    Both {
-        first: first,
-        second: second,
-    }
+    Pair { first, second }
 }
 
 // What two builds answer, and two calls by the plates that they wrote.
 #[derive(Clone, Copy)]
-struct Four {
-    pub one: DmBuilt,
-    pub two: DmBuilt,
-    pub first: DmCoded,
-    pub second: DmCoded,
+struct Reordered {
+    plates: Pair<DmBuilt>,
+    codes: Pair<DmCoded>,
 }
 
 // M-113: one name listed by the plates of two texts that say the same in another order.
@@ -168,22 +172,24 @@ fn lists_reordered(
     name: &[u8],
     out: &mut [u8],
     more: &mut [u8],
-) -> Four
-    ensures { OrderFree text.now other.now (built result.one plate.new) (built result.two plate2.new)
-        out.old more.old (coded result.first out.new) (coded result.second more.new) }
+) -> Reordered
+    ensures { OrderFree text.now other.now (built result.plates.first plate.new) (built result.plates.second plate2.new)
+        out.old more.old (coded result.codes.first out.new) (coded result.codes.second more.new) }
 {
-    let b = dm_build(text, folding, plate);
-    let c = dm_build(other, folding, plate2);
-    let first = dm_list(&plate[..b.length as usize], name, out);
-    let second = dm_list(&plate2[..c.length as usize], name, more);
-    Four {
-        one: b,
-        two: c,
-        first: first,
-        second: second,
+    let one = dm_build(text, folding, plate);
+    let two = dm_build(other, folding, plate2);
+    let first = dm_list(&plate[..one.length as usize], name, out);
+    let second = dm_list(&plate2[..two.length as usize], name, more);
+    Reordered {
+        plates: Pair {
+            first: one,
+            second: two,
+        },
+        codes: Pair { first, second },
     }
 }
 
+// Stays: what is promised is the call that stands in the body, so that list and encode have a function each, and tests/weakened sees each fall.
 fn encodes_reordered(
     text: &[u8],
     other: &[u8],
@@ -193,19 +199,20 @@ fn encodes_reordered(
     name: &[u8],
     out: &mut [u8],
     more: &mut [u8],
-) -> Four
-    ensures { OrderFree text.now other.now (built result.one plate.new) (built result.two plate2.new)
-        out.old more.old (coded result.first out.new) (coded result.second more.new) }
+) -> Reordered
+    ensures { OrderFree text.now other.now (built result.plates.first plate.new) (built result.plates.second plate2.new)
+        out.old more.old (coded result.codes.first out.new) (coded result.codes.second more.new) }
 {
-    let b = dm_build(text, folding, plate);
-    let c = dm_build(other, folding, plate2);
-    let first = dm_encode(&plate[..b.length as usize], name, out);
-    let second = dm_encode(&plate2[..c.length as usize], name, more);
-    Four {
-        one: b,
-        two: c,
-        first: first,
-        second: second,
+    let one = dm_build(text, folding, plate);
+    let two = dm_build(other, folding, plate2);
+    let first = dm_encode(&plate[..one.length as usize], name, out);
+    let second = dm_encode(&plate2[..two.length as usize], name, more);
+    Reordered {
+        plates: Pair {
+            first: one,
+            second: two,
+        },
+        codes: Pair { first, second },
     }
 }
 

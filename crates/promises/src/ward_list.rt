@@ -3,6 +3,7 @@ ghost use Rattle.zengilvar.specs.Numbers.{coded};
 ghost use Rattle.zengilvar.specs.Ward.{wrote};
 ghost use Rattle.promises.specs.Ward.{WardRefuses, WardGives, WardLists, WardAlike};
 
+use super::Pair;
 use zengilvar::ward_list::dm_ward;
 use zengilvar::{DmCoded, DmWritten, dm_list};
 
@@ -17,11 +18,12 @@ fn wards(plate: &[u8], names: &[u8], out: &mut [u8]) -> DmWritten
 // What ward and list answer.
 #[derive(Clone, Copy)]
 struct WardAndList {
-    pub ward: DmWritten,
-    pub list: DmCoded,
+    ward: DmWritten,
+    list: DmCoded,
 }
 
 // A ward list, and one name listed.
+// Stays: the two calls are all that is promised of, and one function for several promises would fall as a whole under tests/weakened.
 fn wards_as_lists(
     plate: &[u8],
     names: &[u8],
@@ -33,33 +35,21 @@ fn wards_as_lists(
 {
     let ward = dm_ward(plate, names, out);
     let list = dm_list(plate, name, other);
-    WardAndList {
-        ward: ward,
-        list: list,
-    }
-}
-
-// What two wards answer.
-#[derive(Clone, Copy)]
-struct TwoWards {
-    pub first: DmWritten,
-    pub second: DmWritten,
+    WardAndList { ward, list }
 }
 
 // Two ward lists by one plate.
+// Stays: the two calls are all that is promised of, and one function for several promises would fall as a whole under tests/weakened.
 fn wards_alike(
     plate: &[u8],
     names: &[u8],
     out: &mut [u8],
     others: &[u8],
     more: &mut [u8],
-) -> TwoWards
+) -> Pair<DmWritten>
     ensures { WardAlike names.now (wrote result.first out.new) others.now (wrote result.second more.new) }
 {
     let first = dm_ward(plate, names, out);
     let second = dm_ward(plate, others, more);
-    TwoWards {
-        first: first,
-        second: second,
-    }
+    Pair { first, second }
 }

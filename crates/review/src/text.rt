@@ -1,97 +1,80 @@
 // The items of a rule text, one after the other, and the lines of a text.
-ghost use Rattle.std.specs.Prelude.{◌<◌, ◌≤◌, length};
+ghost use Rattle.std.specs.Prelude.{◌-◌, ◌<◌, ◌≤◌, length};
+ghost use Rattle.std.specs.Iterator.{at_most};
+ghost use Rattle.rule_text.specs.Answers.{Lies};
 
-use rule_text::item::{item, line_of};
-use rule_text::{Entry, Span};
-use std::num::wrapping_add_u64;
+use rule_text::item::line_of;
+use rule_text::rule::bytes_in;
+use rule_text::{Entry, item};
 
-// What an item is.
-pub(crate) const RULE: u8 = 0;
-
-pub(crate) const FOLDING: u8 = 1;
-
-pub(crate) const OTHER: u8 = 2;
-
-// An item: of a rule the place of its pattern, of a folding its characters; and its length.
+// An item: a rule by its pattern, a folding by its characters, or something that names do not meet.
 #[derive(Clone, Copy)]
-pub(crate) struct Item {
-    pub(crate) kind: u8,
-    pub(crate) from: usize,
-    pub(crate) to: usize,
-    pub(crate) key: u32,
-    pub(crate) target: u32,
-    pub(crate) width: usize,
+pub(crate) enum Item<'a> {
+    Rule(&'a [u8]),
+    Folding { key: char, target: char },
+    Other,
 }
 
-fn other(width: usize) -> Item {
-    Item {
-        kind: OTHER,
-        from: 0,
-        to: 0,
-        key: 0,
-        target: 0,
-        width: width,
-    }
-}
-
-fn rule(pattern: Span, width: usize) -> Item {
-    Item {
-        kind: RULE,
-        from: pattern.start,
-        to: pattern.end,
-        key: 0,
-        target: 0,
-        width: width,
-    }
-}
-
-fn folding(key: u32, target: u32, width: usize) -> Item {
-    Item {
-        kind: FOLDING,
-        from: 0,
-        to: 0,
-        key: key,
-        target: target,
-        width: width,
-    }
-}
-
-// The first item of the rest of a text; one that is not recognised has no length.
-pub(crate) fn first_item(rest: &[u8]) -> Item {
-    match item(rest) {
-        Entry::Rule(four) => rule(four.pattern, four.next),
-        Entry::Folding { key, target, next } => folding(key, target, next),
-        Entry::LineEnd { next } => other(next),
-        Entry::Comment { next } => other(next),
-        Entry::Unknown => other(0),
-    }
-}
-
-// The place behind an item; the end of the text for one without a length.
-pub(crate) fn behind(text: &[u8], at: usize, width: usize) -> usize
-    requires { at < length text.now }
-    ensures { (at < result) × (result ≤ length text.now) }
-{
-    let left = text.len() - at;
-    if width == 0 {
-        return text.len();
-    }
-    if left < width {
-        return text.len();
-    }
-    at + width
-}
-
-// Where a line begins: there the item begins that build tells by it, for each item ends with a line.
-pub(crate) fn place_of(text: &[u8], line: u64) -> usize {
-    let mut n: u64 = 1;
-    for i in 0..text.len() {
-        if line <= n {
-            return i;
+impl<'a> Item<'a> {
+    // What is in front of a text.
+    fn of(entry: Entry, rest: &'a [u8]) -> Item<'a>
+        requires { Lies (length rest.now) entry }
+    {
+        match entry {
+            Entry::Rule(four) => Item::Rule(bytes_in(rest, four.pattern)),
+            Entry::Folding { key, target, .. } => {
+                match (char::from_u32(key), char::from_u32(target)) {
+                    (Some(key), Some(target)) => Item::Folding { key, target },
+                    _ => Item::Other,
+                }
+            }
+            _ => Item::Other,
         }
-        n = wrapping_add_u64(n, is_newline(text[i]));
     }
-    text.len()
+}
+
+// The items of a text from a place on, each with the place where it begins.
+#[derive(Clone, Copy)]
+pub(crate) struct Items<'a> {
+    text: &'a [u8],
+    at: usize,
+}
+
+impl<'a> Items<'a> {
+    pub(crate) fn of(text: &'a [u8]) -> Items<'a> {
+        Items { text, at: 0 }
+    }
+}
+
+impl<'a> Iterator for Items<'a> {
+    type Item = (usize, Item<'a>);
+
+    ghost remaining = { λ s. at_most (length s.text.now - s.at) };
+
+    // Inlined, since a pattern is sought among all items.
+    #[inline(always)]
+    fn next(&mut self) -> Option<(usize, Item<'a>)> {
+        let at = self.at;
+        if self.text.len() <= at {
+            return None;
+        }
+        let rest = &self.text[at..];
+        let entry = item::item(rest);
+        self.at += width(entry, rest.len());
+        Some((at, Item::of(entry, rest)))
+    }
+}
+
+// How many bytes an item takes; one that is not recognised, all that are left.
+fn width(entry: Entry, left: usize) -> usize
+    requires { (0 < left) × Lies left entry }
+    ensures { (0 < result) × (result ≤ left) }
+{
+    match entry {
+        Entry::Rule(four) => four.next,
+        Entry::Folding { next, .. } | Entry::LineEnd { next } | Entry::Comment { next } => next,
+        Entry::Unknown => left,
+    }
 }
 
 // The line of a place, as a number to write.
@@ -99,36 +82,8 @@ pub(crate) fn line_at(text: &[u8], at: usize) -> u64 {
     line_of(text, at) as u64
 }
 
-fn is_newline(b: u8) -> u64 {
-    if b == b'\n' {
-        return 1;
-    }
-    0
-}
-
-// Where the line of a place begins.
-pub(crate) fn line_start(text: &[u8], at: usize) -> usize {
-    let mut n: usize = 0;
-    for i in 0..text.len() {
-        if at <= i {
-            return n;
-        }
-        if text[i] == b'\n' {
-            n = i + 1;
-        }
-    }
-    n
-}
-
-// Where the line of a place ends.
-pub(crate) fn line_end(text: &[u8], at: usize) -> usize {
-    if text.len() < at {
-        return text.len();
-    }
-    for i in at..text.len() {
-        if text[i] == b'\n' {
-            return i;
-        }
-    }
-    text.len()
+// The line of a number, without its newline.
+pub(crate) fn line_of_number(text: &[u8], number: u64) -> &[u8] {
+    let before = number.saturating_sub(1) as usize;
+    text.split(|b| *b == b'\n').nth(before).unwrap_or_default()
 }

@@ -8,6 +8,7 @@ use native.Mathlib.Omega.{arith}
 use borrow.Author.Tests.{eqb-true, ltb-true}
 use lib.Dec.{eqb, ltb}
 use lib.ListN.{length, get_or, drop}
+use Rattle.std.specs.Prelude.{Option, Some, None}
 use Rattle.laws.specs.Lists.{until}
 use Rattle.laws.proofs.Lists.{rest}
 use Rattle.laws.proofs.Tests.{by_test, and_true}
@@ -22,19 +23,13 @@ use Rattle.rule_text.specs.Forms.{line_at, plain, escaped, part, later_quoted, p
 use Rattle.rule_text.specs.Forms.{folding, closing, multiline_comment, or_rule, or_folding, or_line_end, or_comment, entry}
 use Rattle.rule_text.specs.Answers.{EndsLine, From, Closes, Holds, HoldsFour, Reads, Pairs, Comments, Lies}
 use Rattle.rule_text.specs.declared.Span.{Span}
-use Rattle.rule_text.specs.declared.Reach.{Reach}
-use Rattle.rule_text.specs.declared.Reach.TheVariants as R
 use Rattle.rule_text.specs.declared.Quoted.{Quoted}
-use Rattle.rule_text.specs.declared.Quoted.TheVariants as Q
 use Rattle.rule_text.specs.declared.Symbol.{Symbol}
-use Rattle.rule_text.specs.declared.Symbol.TheVariants as S
-use Rattle.rule_text.specs.declared.Parts.{Parts}
-use Rattle.rule_text.specs.declared.Parts.TheVariants as P
+use Rattle.rule_text.specs.declared.Four.{Four}
 use Rattle.rule_text.specs.declared.Pair.{Pair}
-use Rattle.rule_text.specs.declared.Pair.TheVariants as F
 use Rattle.rule_text.proofs.Counts.{pair_within}
 use Rattle.rule_text.proofs.Ends.{line_ends, at_from}
-use Rattle.rule_text.proofs.Quotes.{span, at_holds, four_holds}
+use Rattle.rule_text.proofs.Quotes.{at_holds, four_holds}
 use Rattle.rule_text.proofs.Folds.{letter_reads, folds_pairs}
 use Rattle.rule_text.proofs.Blocks.{closes, comments}
 
@@ -58,11 +53,11 @@ comment_most l = by_test (λ (k : ℕ). k ≤ length l) (pair_at l 0 slash slash
 
 -- ---- the line end
 
-to : (at k : ℕ) → later at (R.To k) ≡ R.To (at + k)
+to : (at k : ℕ) → later at (Some k) ≡ Some (at + k)
 unfolding later
 to at k = refl
 
-no : (at : ℕ) → later at R.No ≡ R.No
+no : (at : ℕ) → later at None ≡ None
 unfolding later
 no at = refl
 
@@ -76,11 +71,11 @@ ending_ends l =
     by_test (EndsLine (length l)) (pair_at l 0 return newline) _ _
     (λ w. let n = pair_within l 0 return newline (omega arith) w in (omega arith, λ h. omega arith)) (λ w. tt)
 
-line : (l : List ℕ) (n m : ℕ) (r : Reach) → n ≤ length l → m ≤ length (lent n l)
+line : (l : List ℕ) (n m : ℕ) (r : Option ℕ) → n ≤ length l → m ≤ length (lent n l)
     → EndsLine (length (lent m (lent n l))) r → EndsLine (length l) (later n (later m r))
 unfolding later
-line l n m (R.To k) h i e = line_ends l n m k h i e
-line l n m R.No h i e = tt
+line l n m (Some k) h i e = line_ends l n m k h i e
+line l n m None h i e = tt
 
 ends_line : (l : List ℕ) → EndsLine (length l) (end_of_line l)
 unfolding end_of_line
@@ -95,9 +90,9 @@ from_line : (l : List ℕ) (at : ℕ) → at ≤ length l → From at (length l)
 unfolding line_at
 from_line l at h = go (end_of_line (drop at l)) (subst (λ (s : List ℕ). EndsLine (length s) (end_of_line (drop at l))) (sym (rest at l)) (ends_line (drop at l)))
   where
-    go : (r : Reach) → EndsLine (length (lent at l)) r → From at (length l) (later at r)
-    go (R.To k) e = subst (From at (length l)) (sym (to at k)) (at_from l at k h e)
-    go R.No e = subst (From at (length l)) (sym (no at)) tt
+    go : (r : Option ℕ) → EndsLine (length (lent at l)) r → From at (length l) (later at r)
+    go (Some k) e = subst (From at (length l)) (sym (to at k)) (at_from l at k h e)
+    go None e = subst (From at (length l)) (sym (no at)) tt
 
 -- ---- a rule
 
@@ -124,34 +119,34 @@ part_at_holds l at h =
     let b = subst (λ (s : List ℕ). Holds 0 (length s) r) (sym (rest (at + n) l)) (part_holds (drop (at + n) l)) in
     by_test (Holds at (length l)) (eqb n 0) _ _ (λ t. tt) (λ t. go n i r b)
   where
-    go : (n : ℕ) → n ≤ length (lent at l) → (r : Quoted) → Holds 0 (length (lent (at + n) l)) r → Holds at (length l) (later_quoted (at + n) r)
-    go n i (Q.Held start end next) b = at_holds l at n start end next h i b
-    go n i Q.No b = tt
+    go : (n : ℕ) → n ≤ length (lent at l) → (r : Option Quoted) → Holds 0 (length (lent (at + n) l)) r → Holds at (length l) (later_quoted (at + n) r)
+    go n i (Some q) b = at_holds l at n q h i b
+    go n i None b = tt
 
 -- Going on behind a part, a letter or a line end keeps what is wanted of the form above.
-quoted : {A : Type 0} (W : A → Type 0) (r : Quoted) (none : A) (go : Span → ℕ → A) (at n : ℕ) → Holds at n r → W none
-    → ((start end next : ℕ) → Holds at n (Q.Held start end next) → W (go (span start end) next)) → W (onward_quoted r none go)
-quoted W (Q.Held start end next) none go at n b w f = f start end next b
-quoted W Q.No none go at n b w f = w
+quoted : {A : Type 0} (W : A → Type 0) (r : Option Quoted) (none : A) (go : Span → ℕ → A) (at n : ℕ) → Holds at n r → W none
+    → ((q : Quoted) → Holds at n (Some q) → W (go q.content q.next)) → W (onward_quoted r none go)
+quoted W (Some q) none go at n b w f = f q b
+quoted W None none go at n b w f = w
 
-lettered : {A : Type 0} (W : A → Type 0) (r : Symbol) (none : A) (go : ℕ → ℕ → A) (at n : ℕ) → Reads at n r → W none
-    → ((c next : ℕ) → Reads at n (S.Is c next) → W (go c next)) → W (onward_letter r none go)
-lettered W (S.Is c next) none go at n b w f = f c next b
-lettered W S.No none go at n b w f = w
+lettered : {A : Type 0} (W : A → Type 0) (r : Option Symbol) (none : A) (go : ℕ → ℕ → A) (at n : ℕ) → Reads at n r → W none
+    → ((s : Symbol) → Reads at n (Some s) → W (go s.code s.next)) → W (onward_letter r none go)
+lettered W (Some s) none go at n b w f = f s b
+lettered W None none go at n b w f = w
 
-lined : {A : Type 0} (W : A → Type 0) (r : Reach) (none : A) (go : ℕ → A) (X : Reach → Type 0) → X r → W none
-    → ((next : ℕ) → X (R.To next) → W (go next)) → W (onward r none go)
-lined W (R.To next) none go X b w f = f next b
-lined W R.No none go X b w f = w
+lined : {A : Type 0} (W : A → Type 0) (r : Option ℕ) (none : A) (go : ℕ → A) (X : Option ℕ → Type 0) → X r → W none
+    → ((next : ℕ) → X (Some next) → W (go next)) → W (onward r none go)
+lined W (Some next) none go X b w f = f next b
+lined W None none go X b w f = w
 
 holds_four : (l : List ℕ) → HoldsFour (length l) (quadruplet l)
 unfolding quadruplet
 holds_four l =
-    quoted (HoldsFour (length l)) (part l) P.No _ 0 (length l) (part_holds l) tt λ p p' a x.
-    quoted (HoldsFour (length l)) (part_at l a) P.No _ a (length l) (part_at_holds l a x.within) tt λ s s' b y.
-    quoted (HoldsFour (length l)) (part_at l b) P.No _ b (length l) (part_at_holds l b y.within) tt λ v v' c z.
-    quoted (HoldsFour (length l)) (part_at l c) P.No _ c (length l) (part_at_holds l c z.within) tt λ o o' d w.
-    lined (HoldsFour (length l)) (line_at l d) P.No _ (From d (length l)) (from_line l d w.within) tt (λ next e. four_holds x y z w e)
+    quoted (HoldsFour (length l)) (part l) None _ 0 (length l) (part_holds l) tt λ p x.
+    quoted (HoldsFour (length l)) (part_at l p.next) None _ p.next (length l) (part_at_holds l p.next x.within) tt λ s y.
+    quoted (HoldsFour (length l)) (part_at l s.next) None _ s.next (length l) (part_at_holds l s.next y.within) tt λ v z.
+    quoted (HoldsFour (length l)) (part_at l v.next) None _ v.next (length l) (part_at_holds l v.next z.within) tt λ o w.
+    lined (HoldsFour (length l)) (line_at l o.next) None _ (From o.next (length l)) (from_line l o.next w.within) tt (λ next e. four_holds x y z w e)
 
 -- ---- a folding
 
@@ -167,11 +162,11 @@ letter_at_reads l at h = go (char_of (drop at l)) (reaches l at h)
 folding_pairs : (l : List ℕ) → Pairs (length l) (folding l)
 unfolding folding
 folding_pairs l =
-    lettered (Pairs (length l)) (letter_at l 0) F.No _ 0 (length l) (letter_at_reads l 0 (omega arith)) tt λ key m x.
-    by_test (Pairs (length l)) (eqb (get_or l m 0) equals) _ _ (λ t.
-    let i : m + 1 ≤ length l = let w = within l m equals (omega arith) (eqb-true (get_or l m 0) equals t) in omega arith in
-    lettered (Pairs (length l)) (letter_at l (m + 1)) F.No _ (m + 1) (length l) (letter_at_reads l (m + 1) i) tt λ target k y.
-    lined (Pairs (length l)) (line_at l k) F.No _ (From k (length l)) (from_line l k y.within) tt (λ next e. folds_pairs x y e)) (λ t. tt)
+    lettered (Pairs (length l)) (letter_at l 0) None _ 0 (length l) (letter_at_reads l 0 (omega arith)) tt λ k x.
+    by_test (Pairs (length l)) (eqb (get_or l k.next 0) equals) _ _ (λ t.
+    let i : k.next + 1 ≤ length l = let w = within l k.next equals (omega arith) (eqb-true (get_or l k.next 0) equals t) in omega arith in
+    lettered (Pairs (length l)) (letter_at l (k.next + 1)) None _ (k.next + 1) (length l) (letter_at_reads l (k.next + 1) i) tt λ t y.
+    lined (Pairs (length l)) (line_at l t.next) None _ (From t.next (length l)) (from_line l t.next y.within) tt (λ next e. folds_pairs x y e)) (λ t. tt)
 
 -- ---- a block comment
 
@@ -183,9 +178,9 @@ closing_closes (x ∷ xs) =
     (λ t. let n = within xs 0 slash (omega arith) (eqb-true (get_or xs 0 0) slash (and_true (eqb x star) (eqb (get_or xs 0 0) slash) t).1) in omega arith)
     (λ t. go (closing xs) (closing_closes xs))
   where
-    go : (r : Reach) → Closes (length xs) r → Closes (suc (length xs)) (later 1 r)
-    go (R.To k) b = subst (Closes (suc (length xs))) (sym (to 1 k)) (let c : k + 2 ≤ length xs = b in omega arith)
-    go R.No b = subst (Closes (suc (length xs))) (sym (no 1)) tt
+    go : (r : Option ℕ) → Closes (length xs) r → Closes (suc (length xs)) (later 1 r)
+    go (Some k) b = subst (Closes (suc (length xs))) (sym (to 1 k)) (let c : k + 2 ≤ length xs = b in omega arith)
+    go None b = subst (Closes (suc (length xs))) (sym (no 1)) tt
 
 comment_reaches : (l : List ℕ) → Comments (length l) (multiline_comment l)
 unfolding multiline_comment
@@ -193,7 +188,7 @@ comment_reaches l =
     by_test (Comments (length l)) (pair_at l 0 slash star) _ _ (λ t.
     let two : 2 ≤ length l = let w = pair_within l 0 slash star (omega arith) t in omega arith in
     let c = subst (λ (s : List ℕ). Closes (length s) (closing (drop 2 l))) (sym (rest 2 l)) (closing_closes (drop 2 l)) in
-    lined (Comments (length l)) (closing (drop 2 l)) R.No _ (Closes (length (lent 2 l))) c tt λ n b.
+    lined (Comments (length l)) (closing (drop 2 l)) None _ (Closes (length (lent 2 l))) c tt λ n b.
     comments n (length l) (line_at l (n + 4)) (from_line l (n + 4) (closes l n two b))) (λ t. tt)
 
 -- ---- an item
@@ -202,18 +197,18 @@ pub lies : (l : List ℕ) → Lies (length l) (entry l)
 unfolding entry
 lies l = rule (quadruplet l) (holds_four l)
   where
-    block : (r : Reach) → Comments (length l) r → Lies (length l) (or_comment r)
-    block (R.To next) h = h
-    block R.No h = tt
+    block : (r : Option ℕ) → Comments (length l) r → Lies (length l) (or_comment r)
+    block (Some next) h = h
+    block None h = tt
 
-    line_end : (r : Reach) → EndsLine (length l) r → Lies (length l) (or_line_end r (or_comment (multiline_comment l)))
-    line_end (R.To next) h = h
-    line_end R.No h = block (multiline_comment l) (comment_reaches l)
+    line_end : (r : Option ℕ) → EndsLine (length l) r → Lies (length l) (or_line_end r (or_comment (multiline_comment l)))
+    line_end (Some next) h = h
+    line_end None h = block (multiline_comment l) (comment_reaches l)
 
-    pair : (p : Pair) → Pairs (length l) p → Lies (length l) (or_folding p (or_line_end (end_of_line l) (or_comment (multiline_comment l))))
-    pair (F.Folds key target next) h = h
-    pair F.No h = line_end (end_of_line l) (ends_line l)
+    pair : (p : Option Pair) → Pairs (length l) p → Lies (length l) (or_folding p (or_line_end (end_of_line l) (or_comment (multiline_comment l))))
+    pair (Some p) h = h
+    pair None h = line_end (end_of_line l) (ends_line l)
 
-    rule : (p : Parts) → HoldsFour (length l) p → Lies (length l) (or_rule p (or_folding (folding l) (or_line_end (end_of_line l) (or_comment (multiline_comment l)))))
-    rule (P.Four four) h = h
-    rule P.No h = pair (folding l) (folding_pairs l)
+    rule : (p : Option Four) → HoldsFour (length l) p → Lies (length l) (or_rule p (or_folding (folding l) (or_line_end (end_of_line l) (or_comment (multiline_comment l)))))
+    rule (Some four) h = h
+    rule None h = pair (folding l) (folding_pairs l)

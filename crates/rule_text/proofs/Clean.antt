@@ -12,6 +12,7 @@ use borrow.Author.Tests.{eqb-true, ltb-true}
 use lib.Dec.{eqb, ltb, lit<}
 use lib.ListN.{length, get_or, take, drop, length-drop, take-append-drop, get_or-eq_default}
 use lib.Seq.{drop-drop, split_at}
+use Rattle.std.specs.Prelude.{Option, Some, None}
 use Rattle.laws.specs.Lists.{every, cut, until}
 use Rattle.laws.proofs.Tests.{and_true, by_test}
 use Rattle.laws.proofs.Bits.{by_order}
@@ -33,6 +34,7 @@ use Rattle.rule_text.specs.Forms.{
   onward_quoted,
   onward_letter,
   later,
+  held,
   blanks,
   comment,
   ending,
@@ -58,19 +60,12 @@ use Rattle.rule_text.specs.Forms.{
 use Rattle.rule_text.specs.Items.{Saying, Item, taken, item_of, followed, items_from, items}
 use Rattle.rule_text.specs.Items.Saying.{RuleItem, FoldingItem, LineEndItem, CommentItem, UnknownItem}
 use Rattle.rule_text.specs.declared.Span.{Span}
-use Rattle.rule_text.specs.declared.Reach.{Reach}
-use Rattle.rule_text.specs.declared.Reach.TheVariants as R
 use Rattle.rule_text.specs.declared.Quoted.{Quoted}
-use Rattle.rule_text.specs.declared.Quoted.TheVariants as Q
 use Rattle.rule_text.specs.declared.Symbol.{Symbol}
-use Rattle.rule_text.specs.declared.Symbol.TheVariants as S
-use Rattle.rule_text.specs.declared.Parts.{Parts}
-use Rattle.rule_text.specs.declared.Parts.TheVariants as P
+use Rattle.rule_text.specs.declared.Four.{Four}
 use Rattle.rule_text.specs.declared.Pair.{Pair}
-use Rattle.rule_text.specs.declared.Pair.TheVariants as F
 use Rattle.rule_text.specs.declared.Entry.{Entry}
 use Rattle.rule_text.specs.declared.Entry.TheVariants as E
-use Rattle.rule_text.proofs.Quotes.{span}
 
 -- ---- where an item ends
 
@@ -91,23 +86,23 @@ stop_passes x xs zero (inl e) = absurd (omega (arith, ap length e))
 stop_passes x xs zero (inr s) = absurd (omega (arith, sym (length-drop s.0 (x ∷ xs)) ∙ ap length s.1))
 stop_passes x xs (suc n) s = omega arith
 
-abbrev Ended : List ℕ → Reach → Type 0
-Ended l (R.To n) = Stop l n
-Ended l R.No = Unit {0}
+abbrev Ended : List ℕ → Option ℕ → Type 0
+Ended l (Some n) = Stop l n
+Ended l None = Unit {0}
 
-later_ended : (a : ℕ) (l : List ℕ) (r : Reach) → Ended (drop a l) r → Ended l (later a r)
+later_ended : (a : ℕ) (l : List ℕ) (r : Option ℕ) → Ended (drop a l) r → Ended l (later a r)
 unfolding later
-later_ended a l (R.To n) (inl e) = inl (sym (drop-drop n a l) ∙ e)
-later_ended a l (R.To n) (inr s) = inr (a + s.0, sym (drop-drop s.0 a l) ∙ s.1 ∙ ap (λ (r : List ℕ). newline ∷ r) (drop-drop n a l))
-later_ended a l R.No s = tt
+later_ended a l (Some n) (inl e) = inl (sym (drop-drop n a l) ∙ e)
+later_ended a l (Some n) (inr s) = inr (a + s.0, sym (drop-drop s.0 a l) ∙ s.1 ∙ ap (λ (r : List ℕ). newline ∷ r) (drop-drop n a l))
+later_ended a l None s = tt
 
 ending_ended : (l : List ℕ) → Ended l (ending l)
 unfolding ending pair_at
 ending_ended [] = inl refl
 ending_ended (x ∷ xs) =
-    by_test (Ended (x ∷ xs)) (eqb (length (x ∷ xs)) 0) (R.To 0) _ (λ e. absurd (omega (arith, eqb-true (length (x ∷ xs)) 0 e))) λ e.
-    by_test (Ended (x ∷ xs)) (eqb x newline) (R.To 1) _ (λ f. inr (0, ap (λ (c : ℕ). c ∷ xs) (eqb-true x newline f))) λ f.
-    by_test (Ended (x ∷ xs)) (eqb x 13 && eqb (get_or xs 0 0) newline) (R.To 2) R.No
+    by_test (Ended (x ∷ xs)) (eqb (length (x ∷ xs)) 0) (Some 0) _ (λ e. absurd (omega (arith, eqb-true (length (x ∷ xs)) 0 e))) λ e.
+    by_test (Ended (x ∷ xs)) (eqb x newline) (Some 1) _ (λ f. inr (0, ap (λ (c : ℕ). c ∷ xs) (eqb-true x newline f))) λ f.
+    by_test (Ended (x ∷ xs)) (eqb x 13 && eqb (get_or xs 0 0) newline) (Some 2) None
     (λ g. second xs (eqb-true (get_or xs 0 0) newline (and_true (eqb x 13) (eqb (get_or xs 0 0) newline) g).1)) (λ g. tt)
   where
     second : (l : List ℕ) → get_or l 0 0 ≡ newline → Stop (x ∷ l) 2
@@ -128,17 +123,17 @@ line_at_lem l at = later_ended at l (end_of_line (drop at l)) (end_of_line_lem (
 -- ---- going on behind a form: what holds where it does not fit, and of whatever is found behind it, holds
 
 module _ {A : Type 0} (K : A → Type 0) (none : A) where
-  onward_keeps : (r : Reach) (go : ℕ → A) → K none → ((n : ℕ) → r ≡ R.To n → K (go n)) → K (onward r none go)
-  onward_keeps (R.To n) go h f = f n refl
-  onward_keeps R.No go h f = h
+  onward_keeps : (r : Option ℕ) (go : ℕ → A) → K none → ((n : ℕ) → r ≡ Some n → K (go n)) → K (onward r none go)
+  onward_keeps (Some n) go h f = f n refl
+  onward_keeps None go h f = h
 
-  quoted_keeps : (r : Quoted) (go : Span → ℕ → A) → K none → ((s e n : ℕ) → r ≡ Q.Held s e n → K (go (span s e) n)) → K (onward_quoted r none go)
-  quoted_keeps (Q.Held s e n) go h f = f s e n refl
-  quoted_keeps Q.No go h f = h
+  quoted_keeps : (r : Option Quoted) (go : Span → ℕ → A) → K none → ((q : Quoted) → r ≡ Some q → K (go q.content q.next)) → K (onward_quoted r none go)
+  quoted_keeps (Some q) go h f = f q refl
+  quoted_keeps None go h f = h
 
-  letter_keeps : (r : Symbol) (go : ℕ → ℕ → A) → K none → ((c n : ℕ) → r ≡ S.Is c n → K (go c n)) → K (onward_letter r none go)
-  letter_keeps (S.Is c n) go h f = f c n refl
-  letter_keeps S.No go h f = h
+  letter_keeps : (r : Option Symbol) (go : ℕ → ℕ → A) → K none → ((s : Symbol) → r ≡ Some s → K (go s.code s.next)) → K (onward_letter r none go)
+  letter_keeps (Some s) go h f = f s refl
+  letter_keeps None go h f = h
 
 -- ---- a pattern is a text
 
@@ -161,20 +156,20 @@ until_is b (x ∷ xs) h = go (eqb x b) (eqb-true x b) h (until_is b xs)
     go true e i below = e refl
     go false e i below = below (omega arith)
 
-abbrev Inside : List ℕ → Quoted → Type 0
-Inside l (Q.Held s e n) = is_text (cut l s e) ≡ true
-Inside l Q.No = Unit {0}
+abbrev Inside : List ℕ → Option Quoted → Type 0
+Inside l (Some q) = is_text (cut l q.content.start q.content.end) ≡ true
+Inside l None = Unit {0}
 
 escaped_inside : (x : ℕ) (xs : List ℕ) → is_text xs ≡ true → Inside (x ∷ xs) (escaped (x ∷ xs))
 unfolding escaped
 escaped_inside x xs h =
-    by_test (Inside (x ∷ xs)) (eqb (get_or xs 2 0) quote) (Q.Held 1 3 4) Q.No (λ e. before_quote xs 2 (eqb-true (get_or xs 2 0) quote e) h) (λ e. tt)
+    by_test (Inside (x ∷ xs)) (eqb (get_or xs 2 0) quote) (Some (held 1 3 4)) None (λ e. before_quote xs 2 (eqb-true (get_or xs 2 0) quote e) h) (λ e. tt)
 
 plain_inside : (x : ℕ) (xs : List ℕ) → is_text xs ≡ true → Inside (x ∷ xs) (plain (x ∷ xs))
 unfolding plain
 plain_inside x xs h =
     let n = until quote xs in
-    by_test (Inside (x ∷ xs)) (ltb (1 + n) (length (x ∷ xs))) (Q.Held 1 (1 + n) (1 + n + 1)) Q.No
+    by_test (Inside (x ∷ xs)) (ltb (1 + n) (length (x ∷ xs))) (Some (held 1 (1 + n) (1 + n + 1))) None
     (λ e.
     let i = ltb-true (1 + n) (length (x ∷ xs)) e in
     let same : 1 + n - 1 ≡ n = omega arith in
@@ -185,7 +180,7 @@ part_inside : (l : List ℕ) → is_text l ≡ true → Inside l (part l)
 unfolding part
 part_inside [] h = tt
 part_inside (x ∷ xs) h =
-    by_test (Inside (x ∷ xs)) (eqb x quote) _ Q.No
+    by_test (Inside (x ∷ xs)) (eqb x quote) _ None
     (λ e.
     let rest = ascii_behind quote (lit< tt) xs (ap (λ (c : ℕ). is_text (c ∷ xs)) (sym (eqb-true x quote e)) ∙ h) in
     by_test (Inside (x ∷ xs)) (pair_at (x ∷ xs) 1 backslash quote) _ _ (λ f. escaped_inside x xs rest) (λ f. plain_inside x xs rest))
@@ -215,28 +210,28 @@ module _ (t : ℕ → Bool) where
   Sound l (E.Comment next) = Stop l next
   Sound l E.Unknown = Unit {0}
 
-  abbrev SoundRule : List ℕ → Parts → Type 0
-  SoundRule l (P.Four four) = Clean (RuleItem (inside l four.pattern) [] [] []) × Stop l four.next
-  SoundRule l P.No = Unit {0}
+  abbrev SoundRule : List ℕ → Option Four → Type 0
+  SoundRule l (Some four) = Clean (RuleItem (inside l four.pattern) [] [] []) × Stop l four.next
+  SoundRule l None = Unit {0}
 
-  abbrev SoundFolding : List ℕ → Pair → Type 0
-  SoundFolding l (F.Folds key target next) = Clean (FoldingItem key target) × Stop l next
-  SoundFolding l F.No = Unit {0}
+  abbrev SoundFolding : List ℕ → Option Pair → Type 0
+  SoundFolding l (Some p) = Clean (FoldingItem p.key p.target) × Stop l p.next
+  SoundFolding l None = Unit {0}
 
-  abbrev SoundLetter : Symbol → Type 0
-  SoundLetter (S.Is c n) = (scalar c ≡ true) × (0 < c)
-  SoundLetter S.No = Unit {0}
+  abbrev SoundLetter : Option Symbol → Type 0
+  SoundLetter (Some s) = (scalar s.code ≡ true) × (0 < s.code)
+  SoundLetter None = Unit {0}
 
   module _ (z : t 0 ≡ false) (l : List ℕ) (h : is_text l ≡ true) (passes : every t l ≡ true) where
     rule_sound : SoundRule l (quadruplet l)
     unfolding quadruplet
     rule_sound =
-        quoted_keeps (SoundRule l) P.No (part l) _ tt λ p p' a e.
-        quoted_keeps (SoundRule l) P.No (part_at l a) _ tt λ s s' b _.
-        quoted_keeps (SoundRule l) P.No (part_at l b) _ tt λ v v' c _.
-        quoted_keeps (SoundRule l) P.No (part_at l c) _ tt λ o o' d _.
-        onward_keeps (SoundRule l) P.No (line_at l d) _ tt λ next f.
-        ((subst (Inside l) e (part_inside l h), every_cut t l p p' passes), subst (Ended l) f (line_at_lem l d))
+        quoted_keeps (SoundRule l) None (part l) _ tt λ p e.
+        quoted_keeps (SoundRule l) None (part_at l p.next) _ tt λ s _.
+        quoted_keeps (SoundRule l) None (part_at l s.next) _ tt λ v _.
+        quoted_keeps (SoundRule l) None (part_at l v.next) _ tt λ o _.
+        onward_keeps (SoundRule l) None (line_at l o.next) _ tt λ next f.
+        ((subst (Inside l) e (part_inside l h), every_cut t l p.content.start p.content.end passes), subst (Ended l) f (line_at_lem l o.next))
 
     letter_sound : (at : ℕ) → SoundLetter (letter_at l at)
     unfolding letter_at
@@ -250,41 +245,41 @@ module _ (t : ℕ → Bool) where
     folding_sound : SoundFolding l (folding l)
     unfolding folding
     folding_sound =
-        letter_keeps (SoundFolding l) F.No (letter_at l 0) _ tt λ key a e.
-        by_test (SoundFolding l) (eqb (get_or l a 0) equals) _ F.No
+        letter_keeps (SoundFolding l) None (letter_at l 0) _ tt λ k e.
+        by_test (SoundFolding l) (eqb (get_or l k.next 0) equals) _ None
         (λ q.
-        letter_keeps (SoundFolding l) F.No (letter_at l (a + 1)) _ tt λ target b f.
-        onward_keeps (SoundFolding l) F.No (line_at l b) _ tt λ next g.
-        let k = subst SoundLetter e (letter_sound 0) in
-        let m = subst SoundLetter f (letter_sound (a + 1)) in ((k.0, k.1, m.0, m.1), subst (Ended l) g (line_at_lem l b)))
+        letter_keeps (SoundFolding l) None (letter_at l (k.next + 1)) _ tt λ x f.
+        onward_keeps (SoundFolding l) None (line_at l x.next) _ tt λ next g.
+        let y = subst SoundLetter e (letter_sound 0) in
+        let z = subst SoundLetter f (letter_sound (k.next + 1)) in ((y.0, y.1, z.0, z.1), subst (Ended l) g (line_at_lem l x.next)))
         (λ q. tt)
 
     comment_sound : Ended l (multiline_comment l)
     unfolding multiline_comment
     comment_sound =
-        by_test (Ended l) (pair_at l 0 slash star) _ R.No
-        (λ q. onward_keeps (Ended l) R.No (closing (drop 2 l)) (λ n. line_at l (n + 4)) tt λ n _. line_at_lem l (n + 4))
+        by_test (Ended l) (pair_at l 0 slash star) _ None
+        (λ q. onward_keeps (Ended l) None (closing (drop 2 l)) (λ n. line_at l (n + 4)) tt λ n _. line_at_lem l (n + 4))
         (λ q. tt)
 
     entry_sound : Sound l (entry l)
     unfolding entry
     entry_sound = rule (quadruplet l) _ rule_sound (pair (folding l) _ folding_sound (line (end_of_line l) _ (end_of_line_lem l) (block (multiline_comment l) comment_sound)))
       where
-        rule : (r : Parts) (e : Entry) → SoundRule l r → Sound l e → Sound l (or_rule r e)
-        rule (P.Four four) e a b = a
-        rule P.No e a b = b
+        rule : (r : Option Four) (e : Entry) → SoundRule l r → Sound l e → Sound l (or_rule r e)
+        rule (Some four) e a b = a
+        rule None e a b = b
 
-        pair : (r : Pair) (e : Entry) → SoundFolding l r → Sound l e → Sound l (or_folding r e)
-        pair (F.Folds key target next) e a b = a
-        pair F.No e a b = b
+        pair : (r : Option Pair) (e : Entry) → SoundFolding l r → Sound l e → Sound l (or_folding r e)
+        pair (Some p) e a b = a
+        pair None e a b = b
 
-        line : (r : Reach) (e : Entry) → Ended l r → Sound l e → Sound l (or_line_end r e)
-        line (R.To next) e a b = a
-        line R.No e a b = b
+        line : (r : Option ℕ) (e : Entry) → Ended l r → Sound l e → Sound l (or_line_end r e)
+        line (Some next) e a b = a
+        line None e a b = b
 
-        block : (r : Reach) → Ended l r → Sound l (or_comment r)
-        block (R.To next) a = a
-        block R.No a = tt
+        block : (r : Option ℕ) → Ended l r → Sound l (or_comment r)
+        block (Some next) a = a
+        block None a = tt
 
   -- Behind an item the items go on, clean.
   goes_on : (place x : ℕ) (xs : List ℕ) → is_text (x ∷ xs) ≡ true → (e : Entry) → Sound (x ∷ xs) e

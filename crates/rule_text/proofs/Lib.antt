@@ -3,7 +3,6 @@ pub mod Ends
 pub mod Quotes
 pub mod Folds
 pub mod Blocks
-pub mod Entries
 pub mod Bounds
 pub mod Walk
 pub mod Covers

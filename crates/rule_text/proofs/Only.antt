@@ -3,27 +3,27 @@ use mathlib.Core.Path.{◌≡◌}
 use mathlib.Core.List.{List}
 use Prim.Native.Nat.{ℕ}
 use lib.ListN.{length}
+use Rattle.std.specs.Prelude.{Option}
 use Rattle.laws.proofs.Only.{only}
 use Rattle.rule_text.specs.Forms.{end_of_line, inside, quadruplet, folding, multiline_comment, entry}
 use Rattle.rule_text.specs.Items.{line_of}
 use Rattle.rule_text.specs.Answers.{EndsLine, HoldsFour, Pairs, Comments, Lies}
 use Rattle.rule_text.specs.declared.Span.{Span}
-use Rattle.rule_text.specs.declared.Reach.{Reach}
-use Rattle.rule_text.specs.declared.Parts.{Parts}
+use Rattle.rule_text.specs.declared.Four.{Four}
 use Rattle.rule_text.specs.declared.Pair.{Pair}
 use Rattle.rule_text.specs.declared.Entry.{Entry}
 
 module _ (l : List ℕ) where
-  pub only_end_of_line : (r r' : Reach) → (r ≡ end_of_line l) × EndsLine (length l) r → (r' ≡ end_of_line l) × EndsLine (length l) r' → r ≡ r'
+  pub only_end_of_line : (r r' : Option ℕ) → (r ≡ end_of_line l) × EndsLine (length l) r → (r' ≡ end_of_line l) × EndsLine (length l) r' → r ≡ r'
   only_end_of_line r r' e f = only e.0 f.0
 
-  pub only_quadruplet : (r r' : Parts) → (r ≡ quadruplet l) × HoldsFour (length l) r → (r' ≡ quadruplet l) × HoldsFour (length l) r' → r ≡ r'
+  pub only_quadruplet : (r r' : Option Four) → (r ≡ quadruplet l) × HoldsFour (length l) r → (r' ≡ quadruplet l) × HoldsFour (length l) r' → r ≡ r'
   only_quadruplet r r' e f = only e.0 f.0
 
-  pub only_folding : (r r' : Pair) → (r ≡ folding l) × Pairs (length l) r → (r' ≡ folding l) × Pairs (length l) r' → r ≡ r'
+  pub only_folding : (r r' : Option Pair) → (r ≡ folding l) × Pairs (length l) r → (r' ≡ folding l) × Pairs (length l) r' → r ≡ r'
   only_folding r r' e f = only e.0 f.0
 
-  pub only_multiline_comment : (r r' : Reach) → (r ≡ multiline_comment l) × Comments (length l) r → (r' ≡ multiline_comment l) × Comments (length l) r' → r ≡ r'
+  pub only_multiline_comment : (r r' : Option ℕ) → (r ≡ multiline_comment l) × Comments (length l) r → (r' ≡ multiline_comment l) × Comments (length l) r' → r ≡ r'
   only_multiline_comment r r' e f = only e.0 f.0
 
   pub only_item : (r r' : Entry) → (r ≡ entry l) × Lies (length l) r → (r' ≡ entry l) × Lies (length l) r' → r ≡ r'

@@ -1,83 +1,50 @@
--- A quoted part, and four of them: each way out of the forms, and the bounds of a rule. Assumes nothing.
-use mathlib.Core.Path.{◌≡◌, sym, ap, ◌∙◌}
-use mathlib.Core.Bool.{true, false}
+-- A quoted part: the first quote that `position` answers, the bounds from a place on, and those of four of them. Assumes nothing.
+use mathlib.Core.Path.{◌≡◌, refl, sym, ap, ◌∙◌}
+use mathlib.Core.Bool.{Bool, true, false, cond}
 use mathlib.Core.List.{List}
 use Prim.Native.Nat.{ℕ, ◌+◌, ◌<◌, ◌≤◌}
 use native.Mathlib.Omega.{arith}
-use borrow.Author.Tests.{eq-eqb, ne_eqb, lt-ltb, le-ltb}
-use lib.ListN.{length, get_or, drop}
+use borrow.Author.Tests.{lt-ltb, le-ltb, ltb-true, ltb-false}
+use lib.Dec.{eqb, ltb}
+use lib.ListN.{length, drop}
+use Rattle.std.specs.Prelude.{Option, Some, None}
+use Rattle.std.specs.List.{position_or_len}
 use Rattle.laws.specs.Lists.{until}
 use Rattle.laws.proofs.Lists.{rest}
 use Rattle.laws.proofs.Parts.{lent, lent_length}
-use Rattle.rule_text.specs.Forms.{quote, backslash, pair_at, blanks, line_at, plain, escaped, part, later_quoted, part_at, quadruplet}
+use Rattle.chars.proofs.Counted.{until_is}
+use Rattle.rule_text.specs.Forms.{quote, held, plain}
 use Rattle.rule_text.specs.Answers.{From, Holds, FourIn}
-use Rattle.rule_text.specs.declared.Span.{Span}
-use Rattle.rule_text.specs.declared.Reach.TheVariants as R
 use Rattle.rule_text.specs.declared.Quoted.{Quoted}
-use Rattle.rule_text.specs.declared.Quoted.TheVariants.{Held, No}
-use Rattle.rule_text.specs.declared.Parts.TheVariants as P
-
-abbrev pub span : ℕ → ℕ → Span
-span start end = record { start = start; end = end }
 
 module _ (l : List ℕ) where
-  pub escaped_held : get_or l 3 0 ≡ quote → escaped l ≡ Held 1 3 4
-  unfolding escaped
-  escaped_held e = rw (eq-eqb _ _ e)
+  -- Behind the quote in front `position` answers the first.
+  module _ (h : 1 ≤ length l) {r : Option ℕ} (e : let p = position_or_len (λ x. eqb x quote) (lent 1 l) in r ≡ cond (ltb p (length (lent 1 l))) (Some p) None) where
+    abbrev p : ℕ
+    p = position_or_len (λ x. eqb x quote) (lent 1 l)
 
-  pub escaped_none : (get_or l 3 0 ≡ quote → ⊥) → escaped l ≡ No
-  unfolding escaped
-  escaped_none e = rw (ne_eqb _ _ e)
+    is : until quote (drop 1 l) ≡ p
+    is = ap (until quote) (sym (rest 1 l)) ∙ until_is quote (lent 1 l)
 
-  module _ (n : ℕ) (e : n ≡ until quote (lent 1 l)) where
-    there : until quote (drop 1 l) ≡ n
-    there = sym (e ∙ ap (until quote) (rest 1 l))
-
-    pub plain_held : 1 + n < length l → plain l ≡ Held 1 (1 + n) (1 + n + 1)
+    pub plain_found : (k : ℕ) → r ≡ Some k → (Some (held 1 (1 + k) (1 + k + 1)) ≡ plain l) × (1 + k < length l)
     unfolding plain
-    plain_held h = rw (there, lt-ltb _ _ h)
+    plain_found k f = go (ltb p (length (lent 1 l))) (ltb-true p (length (lent 1 l))) (sym f ∙ e)
+      where
+        go : (t : Bool) → (t ≡ true → p < length (lent 1 l)) → Some k ≡ cond t (Some p) None → (Some (held 1 (1 + k) (1 + k + 1)) ≡ plain l) × (1 + k < length l)
+        go true lt g = let x = lent_length 1 l in let q : k ≡ p = cc in let i = lt refl in let b : 1 + k < length l = omega arith in (rw (is, sym q, lt-ltb _ _ b), b)
+        go false lt g = absurd cc
 
-    pub plain_none : length l ≤ 1 + n → plain l ≡ No
+    pub plain_none : r ≡ None → None ≡ plain l
     unfolding plain
-    plain_none h = rw (there, le-ltb _ _ h)
+    plain_none f = go (ltb p (length (lent 1 l))) (ltb-false p (length (lent 1 l))) (sym f ∙ e)
+      where
+        go : (t : Bool) → (t ≡ false → length (lent 1 l) ≤ p) → None ≡ cond t (Some p) None → None ≡ plain l
+        go true le g = absurd cc
+        go false le g = let x = lent_length 1 l in let i = le refl in rw (is, le-ltb (1 + p) (length l) (omega arith))
 
-  pub part_none : (get_or l 0 0 ≡ quote → ⊥) → part l ≡ No
-  unfolding part
-  part_none e = rw (ne_eqb _ _ e)
-
-  module _ (q : get_or l 0 0 ≡ quote) where
-    pub part_escaped : pair_at l 1 backslash quote ≡ true → part l ≡ escaped l
-    unfolding part
-    part_escaped e = rw (eq-eqb _ _ q, e)
-
-    pub part_plain : pair_at l 1 backslash quote ≡ false → part l ≡ plain l
-    unfolding part
-    part_plain e = rw (eq-eqb _ _ q, e)
-
-  -- ---- behind one or more blanks, from a place on
-
-  module _ (at n : ℕ) (b : n ≡ blanks (lent at l)) where
-    gap : blanks (drop at l) ≡ n
-    gap = sym (b ∙ ap blanks (rest at l))
-
-    pub at_tight : n ≡ 0 → No ≡ part_at l at
-    unfolding part_at
-    at_tight h = rw (gap, eq-eqb _ _ h)
-
-    module _ (h : n ≡ 0 → ⊥) (r : Quoted) (e : r ≡ part (lent (at + n) l)) where
-      moved : later_quoted (at + n) r ≡ part_at l at
-      unfolding part_at
-      moved = rw (gap, ne_eqb _ _ h, e, rest (at + n) l)
-
-      pub at_none : r ≡ No → No ≡ part_at l at
-      at_none f = sym (ap (later_quoted (at + n)) f) ∙ moved
-
-      pub at_held : (start end next : ℕ) → r ≡ Held start end next → Held (at + n + start) (at + n + end) (at + n + next) ≡ part_at l at
-      at_held start end next f = sym (ap (later_quoted (at + n)) f) ∙ moved
-
-  pub at_holds : (at n start end next : ℕ) → at ≤ length l → n ≤ length (lent at l) → Holds 0 (length (lent (at + n) l)) (Held start end next)
-      → Holds at (length l) (Held (at + n + start) (at + n + end) (at + n + next))
-  at_holds at n start end next h i r =
+  pub at_holds : (at n : ℕ) (q : Quoted) → at ≤ length l → n ≤ length (lent at l) → Holds 0 (length (lent (at + n) l)) (Some q)
+      → Holds at (length l) (Some (held (at + n + q.content.start) (at + n + q.content.end) (at + n + q.next)))
+  at_holds at n q h i r =
       let x = lent_length at l in
       let y = lent_length (at + n) l in
       let a = r.ordered in
@@ -85,40 +52,9 @@ module _ (l : List ℕ) where
       let c = r.within in
       let d = r.some in record { after = omega arith; ordered = omega arith; closed = omega arith; within = omega arith; some = omega arith }
 
-  -- ---- four parts and a line end
-
-  pub none_1 : part l ≡ No → quadruplet l ≡ P.No
-  unfolding quadruplet
-  none_1 e = rw e
-
-  module _ {p p' a : ℕ} (e1 : part l ≡ Held p p' a) where
-    pub none_2 : part_at l a ≡ No → quadruplet l ≡ P.No
-    unfolding quadruplet
-    none_2 e = rw (e1, e)
-
-    module _ {s s' b : ℕ} (e2 : part_at l a ≡ Held s s' b) where
-      pub none_3 : part_at l b ≡ No → quadruplet l ≡ P.No
-      unfolding quadruplet
-      none_3 e = rw (e1, e2, e)
-
-      module _ {v v' c : ℕ} (e3 : part_at l b ≡ Held v v' c) where
-        pub none_4 : part_at l c ≡ No → quadruplet l ≡ P.No
-        unfolding quadruplet
-        none_4 e = rw (e1, e2, e3, e)
-
-        module _ {o o' d : ℕ} (e4 : part_at l c ≡ Held o o' d) where
-          pub none_5 : line_at l d ≡ R.No → quadruplet l ≡ P.No
-          unfolding quadruplet
-          none_5 e = rw (e1, e2, e3, e4, e)
-
-          pub four : {next : ℕ} → line_at l d ≡ R.To next
-              → quadruplet l ≡ P.Four (record { pattern = span p p'; start = span s s'; vowel = span v v'; other = span o o'; next = next })
-          unfolding quadruplet
-          four e = rw (e1, e2, e3, e4, e)
-
 -- Each part lies behind the one before, and the line end behind them all.
-pub four_holds : {n p p' a s s' b v v' c o o' d next : ℕ} → Holds 0 n (Held p p' a) → Holds a n (Held s s' b) → Holds b n (Held v v' c) → Holds c n (Held o o' d)
-    → From d n (R.To next) → FourIn n (record { pattern = span p p'; start = span s s'; vowel = span v v'; other = span o o'; next = next })
+pub four_holds : {n next : ℕ} {p s v o : Quoted} → Holds 0 n (Some p) → Holds p.next n (Some s) → Holds s.next n (Some v) → Holds v.next n (Some o) → From o.next n (Some next)
+    → FourIn n (record { pattern = p.content; start = s.content; vowel = v.content; other = o.content; next = next })
 four_holds x y z w e =
     let x2 = x.closed in
     let y2 = y.closed in

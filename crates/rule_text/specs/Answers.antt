@@ -1,39 +1,31 @@
--- The answers of this crate's functions: the bounds of the places by cases, so that parts can be lent and a loop over items ends;
--- an item behind each form that does not fit. 01, "Rule text, item by item". Assumes nothing.
-use Rattle.std.specs.Prelude.{ℕ, ◌+◌, ◌<◌, ◌≤◌, ◌≡◌, true, List}
+-- The answers of this crate's functions: the bounds of the places by cases, so that parts can be lent and a loop over items ends.
+-- 01, "Rule text, item by item". Assumes nothing.
+use Rattle.std.specs.Prelude.{ℕ, ◌+◌, ◌<◌, ◌≤◌, ◌≡◌, true, Option, Some, None}
 use Rattle.chars.specs.Utf8.{scalar}
-use Rattle.rule_text.specs.Forms.{folding, end_of_line, multiline_comment, or_folding, or_line_end, or_comment}
-use Rattle.rule_text.specs.declared.Reach.{Reach}
-use Rattle.rule_text.specs.declared.Reach.TheVariants as R
-use Rattle.rule_text.specs.declared.Quoted.{Quoted}
-use Rattle.rule_text.specs.declared.Quoted.TheVariants as Q
-use Rattle.rule_text.specs.declared.Symbol.{Symbol}
-use Rattle.rule_text.specs.declared.Symbol.TheVariants as S
 use Rattle.rule_text.specs.declared.Span.{Span}
+use Rattle.rule_text.specs.declared.Quoted.{Quoted}
+use Rattle.rule_text.specs.declared.Symbol.{Symbol}
 use Rattle.rule_text.specs.declared.Four.{Four}
-use Rattle.rule_text.specs.declared.Parts.{Parts}
-use Rattle.rule_text.specs.declared.Parts.TheVariants as P
 use Rattle.rule_text.specs.declared.Pair.{Pair}
-use Rattle.rule_text.specs.declared.Pair.TheVariants as F
 use Rattle.rule_text.specs.declared.Entry.{Entry}
 use Rattle.rule_text.specs.declared.Entry.TheVariants as E
 
 -- ---- bounds, of n bytes
 
 -- from a place up to the end at most
-abbrev pub From : ℕ → ℕ → Reach → Type 0
-From at n (R.To next) = (at ≤ next) × (next ≤ n)
-From at n R.No = Unit
+abbrev pub From : ℕ → ℕ → Option ℕ → Type 0
+From at n (Some next) = (at ≤ next) × (next ≤ n)
+From at n None = Unit
 
 -- a line end takes a byte where there is one
-abbrev pub EndsLine : ℕ → Reach → Type 0
-EndsLine n (R.To next) = (next ≤ n) × (0 < n → 0 < next)
-EndsLine n R.No = Unit
+abbrev pub EndsLine : ℕ → Option ℕ → Type 0
+EndsLine n (Some next) = (next ≤ n) × (0 < n → 0 < next)
+EndsLine n None = Unit
 
 -- the two bytes that close a comment lie within
-abbrev pub Closes : ℕ → Reach → Type 0
-Closes n (R.To before) = before + 2 ≤ n
-Closes n R.No = Unit
+abbrev pub Closes : ℕ → Option ℕ → Type 0
+Closes n (Some before) = before + 2 ≤ n
+Closes n None = Unit
 
 -- a part from a place on
 pub record HeldIn (at n start end next : ℕ) : Type 0 where
@@ -43,9 +35,9 @@ pub record HeldIn (at n start end next : ℕ) : Type 0 where
   pub within : next ≤ n
   pub some : at < next
 
-abbrev pub Holds : ℕ → ℕ → Quoted → Type 0
-Holds at n (Q.Held start end next) = HeldIn at n start end next
-Holds at n Q.No = Unit
+abbrev pub Holds : ℕ → ℕ → Option Quoted → Type 0
+Holds at n (Some q) = HeldIn at n q.content.start q.content.end q.next
+Holds at n None = Unit
 
 abbrev pub Within : ℕ → Span → Type 0
 Within n s = (s.start ≤ s.end) × (s.end ≤ n)
@@ -59,9 +51,9 @@ pub record FourIn (n : ℕ) (four : Four) : Type 0 where
   pub within : four.next ≤ n
   pub some : 0 < four.next
 
-abbrev pub HoldsFour : ℕ → Parts → Type 0
-HoldsFour n (P.Four four) = FourIn n four
-HoldsFour n P.No = Unit
+abbrev pub HoldsFour : ℕ → Option Four → Type 0
+HoldsFour n (Some four) = FourIn n four
+HoldsFour n None = Unit
 
 pub record SymbolIn (at n c next : ℕ) : Type 0 where
   pub some : at < next
@@ -69,9 +61,9 @@ pub record SymbolIn (at n c next : ℕ) : Type 0 where
   pub small : c < 0x110000
   pub is : scalar c ≡ true
 
-abbrev pub Reads : ℕ → ℕ → Symbol → Type 0
-Reads at n (S.Is c next) = SymbolIn at n c next
-Reads at n S.No = Unit
+abbrev pub Reads : ℕ → ℕ → Option Symbol → Type 0
+Reads at n (Some s) = SymbolIn at n s.code s.next
+Reads at n None = Unit
 
 pub record FoldingIn (n key target next : ℕ) : Type 0 where
   pub within : next ≤ n
@@ -81,29 +73,18 @@ pub record FoldingIn (n key target next : ℕ) : Type 0 where
   pub target_small : target < 0x110000
   pub target_is : scalar target ≡ true
 
-abbrev pub Pairs : ℕ → Pair → Type 0
-Pairs n (F.Folds key target next) = FoldingIn n key target next
-Pairs n F.No = Unit
+abbrev pub Pairs : ℕ → Option Pair → Type 0
+Pairs n (Some p) = FoldingIn n p.key p.target p.next
+Pairs n None = Unit
 
 -- two bytes open a comment and two close it
-abbrev pub Comments : ℕ → Reach → Type 0
+abbrev pub Comments : ℕ → Option ℕ → Type 0
 Comments n r = From 4 n r
 
 -- An item lies within, and takes a byte where there is one.
 abbrev pub Lies : ℕ → Entry → Type 0
 Lies n (E.Rule four) = FourIn n four
 Lies n (E.Folding key target next) = FoldingIn n key target next
-Lies n (E.LineEnd next) = EndsLine n (R.To next)
-Lies n (E.Comment next) = Comments n (R.To next)
+Lies n (E.LineEnd next) = EndsLine n (Some next)
+Lies n (E.Comment next) = Comments n (Some next)
 Lies n E.Unknown = Unit
-
--- ---- "the first form that fits [..], in this order": an item that is no rule; no folding either; no line end either
-
-abbrev pub no_line_end : List ℕ → Entry
-no_line_end l = or_comment (multiline_comment l)
-
-abbrev pub no_folding : List ℕ → Entry
-no_folding l = or_line_end (end_of_line l) (no_line_end l)
-
-abbrev pub no_rule : List ℕ → Entry
-no_rule l = or_folding (folding l) (no_folding l)

@@ -3,32 +3,26 @@ ghost use Rattle.std.specs.Prelude.{◌≡◌, length};
 ghost use Rattle.rule_text.specs.Forms.{closing, multiline_comment};
 ghost use Rattle.rule_text.specs.Answers.{Closes, Comments};
 
-use super::Reach;
 use super::lines::line_at;
-use super::scan::pair_at;
 
 // How many bytes stand before the first `*/`.
-fn closing_of(rest: &[u8]) -> Reach
+fn closing_of(rest: &[u8]) -> Option<usize>
     ensures { (result ≡ closing rest.now) × Closes (length rest.now) result }
 {
-    let mut i: usize = 0;
-    while i < rest.len() {
-        if pair_at(rest, i, b'*', b'/') {
-            return Reach::To(i);
+    for i in 0..rest.len() {
+        if rest[i..].starts_with(b"*/") {
+            return Some(i);
         }
-        i += 1;
     }
-    Reach::No
+    None
 }
 
-pub fn multiline_comment(rest: &[u8]) -> Reach
+#[tactic(auto, unfolding(crate::specs::Forms::multiline_comment, crate::specs::Forms::pair_at))]
+pub fn multiline_comment(rest: &[u8]) -> Option<usize>
     ensures { (result ≡ multiline_comment rest.now) × Comments (length rest.now) result }
 {
-    if !pair_at(rest, 0, b'/', b'*') {
-        return Reach::No;
-    }
-    let Reach::To(n) = closing_of(&rest[2..]) else {
-        return Reach::No;
+    let [b'/', b'*', behind @ ..] = rest else {
+        return None;
     };
-    line_at(rest, n + 4)
+    line_at(rest, closing_of(behind)? + 4)
 }

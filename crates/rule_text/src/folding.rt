@@ -4,36 +4,37 @@ ghost use Rattle.rule_text.specs.Forms.{letter_at, folding};
 ghost use Rattle.rule_text.specs.Answers.{Reads, Pairs};
 
 use super::lines::line_at;
-use super::scan::byte;
-use super::{Pair, Reach, Symbol};
+use super::{Pair, Symbol};
 use chars::Char;
 use chars::utf8::char_at;
 
 // The character at a place.
-fn letter_at(rest: &[u8], at: usize) -> Symbol
+#[tactic(auto, unfolding(crate::specs::Forms::letter_at))]
+fn letter_at(rest: &[u8], at: usize) -> Option<Symbol>
     ensures { (result ≡ letter_at rest.now at) × Reads at (length rest.now) result }
 {
-    match char_at(rest, at) {
-        Char::One(c, w) => Symbol::Is(c, at + w),
-        Char::Bad => Symbol::No,
-        Char::End => Symbol::No,
-    }
+    let Char::One(code, width) = char_at(rest, at) else {
+        return None;
+    };
+    Some(Symbol {
+        code,
+        next: at + width,
+    })
 }
 
-pub fn folding(rest: &[u8]) -> Pair
+#[tactic(auto, unfolding(crate::specs::Forms::folding))]
+pub fn folding(rest: &[u8]) -> Option<Pair>
     ensures { (result ≡ folding rest.now) × Pairs (length rest.now) result }
 {
-    let Symbol::Is(key, sign) = letter_at(rest, 0) else {
-        return Pair::No;
+    let key = letter_at(rest, 0)?;
+    let Some(b'=') = rest.get(key.next) else {
+        return None;
     };
-    if byte(rest, sign) != b'=' {
-        return Pair::No;
-    }
-    let Symbol::Is(target, behind) = letter_at(rest, sign + 1) else {
-        return Pair::No;
-    };
-    let Reach::To(next) = line_at(rest, behind) else {
-        return Pair::No;
-    };
-    Pair::Folds { key, target, next }
+    let target = letter_at(rest, key.next + 1)?;
+    let next = line_at(rest, target.next)?;
+    Some(Pair {
+        key: key.code,
+        target: target.code,
+        next,
+    })
 }

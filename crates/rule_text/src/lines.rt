@@ -3,55 +3,48 @@ ghost use Rattle.std.specs.Prelude.{◌≤◌, ◌≡◌, length};
 ghost use Rattle.rule_text.specs.Forms.{comment, ending, end_of_line, line_at};
 ghost use Rattle.rule_text.specs.Answers.{EndsLine, From};
 
-use super::Reach;
-use super::scan::{count_blanks, pair_at};
+use super::scan::count_blanks;
 use chars::scan::count_until;
 
 // How long the comment in front is; 0 where there is none.
+#[tactic(auto, unfolding(crate::specs::Forms::comment, crate::specs::Forms::pair_at))]
 fn eol_comment(rest: &[u8]) -> usize
     ensures { (result ≡ comment rest.now) × (result ≤ length rest.now) }
 {
-    if pair_at(rest, 0, b'/', b'/') {
-        return count_until(rest, b'\n');
+    match rest {
+        [b'/', b'/', ..] => count_until(rest, b'\n'),
+        _ => 0,
     }
-    0
 }
 
 // Newline, CR LF or end of text.
-fn ending_of(rest: &[u8]) -> Reach
+#[tactic(auto, unfolding(crate::specs::Forms::ending, crate::specs::Forms::pair_at))]
+fn ending_of(rest: &[u8]) -> Option<usize>
     ensures { (result ≡ ending rest.now) × EndsLine (length rest.now) result }
 {
-    if rest.len() == 0 {
-        return Reach::To(0);
+    match rest {
+        [] => Some(0),
+        [b'\n', ..] => Some(1),
+        [b'\r', b'\n', ..] => Some(2),
+        _ => None,
     }
-    if rest[0] == b'\n' {
-        return Reach::To(1);
-    }
-    if pair_at(rest, 0, b'\r', b'\n') {
-        return Reach::To(2);
-    }
-    Reach::No
 }
 
-pub fn end_of_line(rest: &[u8]) -> Reach
+#[tactic(auto, unfolding(crate::specs::Forms::end_of_line, crate::specs::Forms::later))]
+pub fn end_of_line(rest: &[u8]) -> Option<usize>
     ensures { (result ≡ end_of_line rest.now) × EndsLine (length rest.now) result }
 {
     let n = count_blanks(rest);
     let behind = &rest[n..];
     let m = eol_comment(behind);
-    let Reach::To(next) = ending_of(&behind[m..]) else {
-        return Reach::No;
-    };
-    Reach::To(n + (m + next))
+    Some(n + (m + ending_of(&behind[m..])?))
 }
 
 // A line end from a place on.
-pub(crate) fn line_at(rest: &[u8], at: usize) -> Reach
+#[tactic(auto, unfolding(crate::specs::Forms::line_at, crate::specs::Forms::later))]
+pub(crate) fn line_at(rest: &[u8], at: usize) -> Option<usize>
     requires { at ≤ length rest.now }
     ensures { (result ≡ line_at rest.now at) × From at (length rest.now) result }
 {
-    let Reach::To(next) = end_of_line(&rest[at..]) else {
-        return Reach::No;
-    };
-    Reach::To(at + next)
+    Some(at + end_of_line(&rest[at..])?)
 }

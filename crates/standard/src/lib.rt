@@ -9,8 +9,8 @@ ghost use Rattle.standard.specs.Plate.{standard};
 // Made once and lent: a constant array is laid on the stack anew wherever it is named.
 pub fn standard_plate() -> [u8; 1765]
     ensures value { result ≡ standard }
-    ensures result_value { accepted result ≡ true }
-    ensures value_2 { 1765 ≡ length result }
+    ensures is_plate { accepted result ≡ true }
+    ensures len { 1765 ≡ length result }
 {
     PLATE
 }

@@ -2,34 +2,34 @@
 ghost use Rattle.std.specs.Prelude.{◌≤◌, length};
 
 // The byte that is lent at a place: neither 0 nor ASCII, and another at the next place, so that a byte that is moved is seen too.
-fn byte(i: usize) -> u8 {
-    128 + (i % 97) as u8
+fn lent_at(place: usize) -> u8 {
+    128 + (place % 97) as u8
 }
 
 pub fn lend(out: &mut [u8]) {
-    for i in 0..out.len() {
-        out[i] = byte(i);
+    for (place, byte) in out.iter_mut().enumerate() {
+        *byte = lent_at(place);
     }
 }
 
 // Whether the bytes from a place on are as lent.
 pub fn is_lent_from(out: &[u8], start: usize) -> bool {
-    for i in start..out.len() {
-        if out[i] != byte(i) {
-            return false;
-        }
-    }
-    true
+    out.iter()
+        .enumerate()
+        .skip(start)
+        .all(|(place, byte)| *byte == lent_at(place))
 }
 
-// How many bytes stand in front of the first that is as lent.
-pub fn written(out: &[u8]) -> usize
-    ensures { result ≤ length out.now }
+// The bytes in front of the first that is as lent.
+pub fn written(out: &[u8]) -> &[u8]
+    ensures { length result.now ≤ length out.now }
 {
-    for i in 0..out.len() {
-        if out[i] == byte(i) {
-            return i;
-        }
+    let end = out
+        .iter()
+        .enumerate()
+        .position(|(place, byte)| *byte == lent_at(place));
+    match end {
+        Some(end) => &out[..end],
+        None => out,
     }
-    out.len()
 }

@@ -9,7 +9,7 @@ use native.Mathlib.Omega.{arith}
 use borrow.Author.Tests.{eq-eqb}
 use lib.Dec.{eqb}
 use lib.ListN.{length, take, drop, replicate, length-append, length-take, length-replicate, length-map}
-use lib.Seq.{take_all, take_at}
+use lib.Seq.{take_at}
 use Rattle.laws.specs.Lists.{In, same}
 use Rattle.laws.proofs.Once.{once_short}
 use Rattle.laws.proofs.Tests.{by_test}
@@ -24,7 +24,7 @@ use Rattle.coder.specs.Name.Named.{Refused, Chars}
 use Rattle.coder.specs.Walk.{uses}
 use Rattle.coder.specs.Answer.{Coded, no_codes, no_codes_at, joined, smaller, listing, room, listed, answered, plated, list_answer}
 use Rattle.coder.specs.Given.{uses_in}
-use Rattle.coder.proofs.Joined.{Six, joined_length}
+use Rattle.coder.proofs.Joined.{Six, length_joined}
 use Rattle.coder.proofs.Demands.{filled, gives}
 use Rattle.ward.specs.Ward.{list_bytes, refused_line, line_of}
 use Rattle.ward.specs.Puts.{Puts}
@@ -58,9 +58,7 @@ codes_long us = all (codes us) (λ k h. let r = listed_chosen us k h in ap lengt
 
 -- A bar fewer than codes.
 joined_long : (us : List Use) → length (joined (codes us)) ≡ 7 * length (codes us) - 1
-joined_long us =
-    let cs = codes us in
-    ap (λ (l : List (List ℕ)). length (joined l)) (sym (take_all (length cs) cs (omega arith))) ∙ joined_length cs (codes_long us) (length cs) [] (omega arith)
+joined_long us = length_joined (codes us) (codes_long us)
 
 -- ---- what list answers for a name, whatever is lent: a refusal, or what it lists
 

@@ -1,15 +1,17 @@
 -- The names of a buffer from a place on: the first ends at its newline or at the end, and the others stand behind. Assumes nothing.
-use Prim.Native.Nat.{ℕ, zero, suc, ◌+◌, ◌-◌, ◌<◌, ◌≤◌}
+use Prim.Native.Nat.{ℕ, zero, suc, ◌+◌, ◌<◌, ◌≤◌, min}
 use mathlib.Core.Path.{◌≡◌, refl, sym, ap, ap₂, ◌∙◌}
-use mathlib.Core.Bool.{Bool, true, false, cond}
+use mathlib.Core.Bool.{Bool, true, false, cond, false≢true}
 use mathlib.Core.Logic.{inl, inr}
 use mathlib.Core.List.{List, [], ◌∷◌, ◌++◌, append_assoc}
 use native.Mathlib.Omega.{arith}
-use borrow.Author.Tests.{le-leb, lt-leb, ne_eqb}
+use borrow.Author.Tests.{le-leb, lt-leb, ne_eqb, eqb-true}
 use lib.Dec.{eqb}
-use lib.ListN.{length, take, drop, length-append, length-drop, drop_of_length-le}
-use lib.Seq.{take-length, take-append_seam, drop_at, drop-drop}
-use Rattle.laws.specs.Lists.{In, until, count_of, onto, split_at, cut}
+use lib.ListN.{length, take, drop, length-append, length-take, length-drop, drop_of_length-le}
+use lib.Seq.{take-length, take-append_seam, drop_at}
+use Rattle.std.proofs.Math.Nat.{min-eq_left, min-eq_right}
+use Rattle.laws.specs.Lists.{In, until, count_of, onto, split_at}
+use Rattle.laws.proofs.Bits.{by_order}
 use Rattle.laws.proofs.Splits.{behind, split, one_part}
 use Rattle.coder.specs.Answer.{smaller}
 use Rattle.ward.specs.Ward.{newline, counted, names}
@@ -87,22 +89,40 @@ names_last name h some =
     ∙ ap₂ (λ (n : List ℕ) (ns : List (List ℕ)). n ∷ ns) (ap (λ (m : ℕ). take m name) k ∙ take-length name)
     (ap names (ap (λ (m : ℕ). drop (suc m) name) k ∙ drop_of_length-le name {i = suc (length name)} (omega arith)) ∙ no_names)
 
-module _ (bytes : List ℕ) (at : ℕ) where
-  pub names_at : (end : ℕ) → at < length bytes → end ≡ at + until newline (drop at bytes) → names (drop at bytes) ≡ cut bytes at end ∷ names (drop (end + 1) bytes)
-  names_at end h e =
-      let some : 0 < length (drop at bytes) = rw (length-drop at bytes) (omega arith) in
-      let wide : until newline (drop at bytes) ≡ end - at = omega arith in
-      let next : at + suc (until newline (drop at bytes)) ≡ end + 1 = omega arith in
-      first_name (drop at bytes) some
-      ∙ ap₂ (λ (n : List ℕ) (ns : List (List ℕ)). n ∷ ns) (ap (λ (k : ℕ). take k (drop at bytes)) wide)
-      (ap names (drop-drop (suc (until newline (drop at bytes))) at bytes ∙ ap (λ (k : ℕ). drop k bytes) next))
+-- The first name, and what is left, as it is cut off.
+pub next_name : (l name behind : List ℕ) (end from : ℕ) → 0 < length l → end ≡ until newline l → name ≡ take end l → from ≡ min (end + 1) (length l) → behind ≡ drop from l
+    → names l ≡ name ∷ names behind
+next_name l name behind end from some e f g h =
+    first_name l some
+    ∙ ap₂ (λ (n : List ℕ) (ns : List (List ℕ)). n ∷ ns) (ap (λ (m : ℕ). take m l) (sym e) ∙ sym f) (ap names (left ∙ sym h))
+  where
+    left : drop (suc (until newline l)) l ≡ drop from l
+    left =
+        ap (λ (m : ℕ). drop (suc m) l) (sym e)
+        ∙ by_order (drop (suc end) l ≡ drop from l) (length l) (suc end)
+        (λ i. drop_of_length-le l {i = suc end} (omega arith) ∙ sym (drop_of_length-le l {i = from} (omega (arith, g ∙ min-eq_right {n = length l} {m = end + 1} (omega arith)))))
+        (λ i. ap (λ (m : ℕ). drop m l) {x = suc end} {y = from} (omega (arith, g ∙ min-eq_left {n = end + 1} {m = length l} (omega arith))))
 
-  pub names_end : length bytes ≤ at → names (drop at bytes) ≡ []
-  names_end h = ap names (drop_of_length-le bytes h) ∙ no_names
+-- No bytes are left, or some are.
+pub empty : (l : List ℕ) → true ≡ eqb (length l) 0 → l ≡ []
+empty [] e = refl
+empty (x ∷ l) e = absurd (omega (arith, eqb-true (length (x ∷ l)) 0 (sym e)))
 
-  -- A name stands at a place before the end.
-  pub name_left : at < length bytes → 0 < length (names (drop at bytes))
-  name_left h = let e = ap length (names_at (at + until newline (drop at bytes)) h refl) in omega arith
+pub not_empty : (l : List ℕ) → false ≡ eqb (length l) 0 → 0 < length l
+not_empty [] e = absurd (false≢true e)
+not_empty (x ∷ l) e = omega arith
+
+-- No more names than bytes.
+pub names_few : (l : List ℕ) → length (names l) ≤ length l
+names_few l = go (length l) l (omega arith)
+  where
+    go : (k : ℕ) (l : List ℕ) → length l ≤ k → length (names l) ≤ length l
+    go k [] h = omega (arith, ap length no_names)
+    go zero (x ∷ xs) h = absurd (omega arith)
+    go (suc k) (x ∷ xs) h =
+        let e = ap length (first_name (x ∷ xs) (omega arith)) in
+        let n = length-drop (until newline (x ∷ xs)) xs in
+        let below = go k (drop (until newline (x ∷ xs)) xs) (omega (arith, n)) in omega (arith, e, n, below)
 
 -- The smaller of two numbers.
 pub smaller_left : (a b : ℕ) → a ≤ b → a ≡ smaller a b
@@ -110,3 +130,11 @@ smaller_left a b h = ap (λ (t : Bool). cond t a b) (sym (le-leb a b h))
 
 pub smaller_right : (a b : ℕ) → b < a → b ≡ smaller a b
 smaller_right a b h = ap (λ (t : Bool). cond t a b) (sym (lt-leb a b h))
+
+-- The most that are asked for and one more, or all; no more than a `usize` can say.
+pub counted_to : (most n : ℕ) (ns : List (List ℕ)) → n ≡ min (most + 1) 18446744073709551615 → length ns ≤ 18446744073709551615
+    → length (take n ns) ≡ smaller (most + 1) (length ns)
+counted_to most n ns e h =
+    by_order (length (take n ns) ≡ smaller (most + 1) (length ns)) (length ns) (most + 1)
+    (λ i. omega (arith, length-take n ns, e, h) ∙ smaller_right (most + 1) (length ns) i)
+    (λ i. omega (arith, length-take n ns, e, h) ∙ smaller_left (most + 1) (length ns) i)

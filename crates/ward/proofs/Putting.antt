@@ -7,8 +7,16 @@ use lib.ListN.{length, take, drop, get_or, set, replicate, length-append, length
 use lib.Seq.{drop-cons, drop-drop, drop-append-le, set_at, take_at, drop_at, length-take-le}
 use Rattle.laws.specs.Lists.{cat}
 use Rattle.laws.proofs.Lists.{rest}
-use Rattle.coder.specs.Answer.{Coded, list_answer}
-use Rattle.ward.specs.Ward.{names, list_bytes, line_bytes, refused_line, line_of, given, line}
+use mathlib.Core.Bool.{true}
+use Rattle.std.specs.Prelude.{Err}
+use Rattle.plate.specs.Read.{accepted, plate_in}
+use Rattle.coder.specs.Answer.{Coded, coded_by, list_answer}
+use Rattle.coder.specs.Outcome.{told, listed_to}
+use Rattle.coder.specs.Refused.{error_number}
+use Rattle.coder.specs.declared.CodeError.{CodeError}
+use Rattle.coder.specs.declared.CodeError.TheVariants.{NotAPlate, NameTooLong, NotUtf8, CharacterNotAllowed, RoomTooSmall}
+use Rattle.coder.proofs.Answers.{by_plate, list_is}
+use Rattle.ward.specs.Ward.{list_bytes, line_bytes, refused_line, line_of, given, line}
 use Rattle.ward.specs.Puts.{Puts}
 use Rattle.ward.proofs.Lines.{any_buffer, refused_lent, codes_stand, given_fits, some_code}
 
@@ -32,6 +40,20 @@ puts_byte bytes n lent buffer b p h =
           ∙ sym (append_assoc bytes (b ∷ []) (drop (length (bytes ++ (b ∷ []))) lent) ∙ ap (λ (m : ℕ). bytes ++ (b ∷ drop m lent)) long);
     }
 
+-- More behind them, as it is copied there.
+pub puts_more : (done more : List ℕ) (to n : ℕ) (lent out ys : List ℕ) → Puts done to lent out → n ≡ length more → ys ≡ more
+    → Puts (done ++ more) (to + n) lent (take to out ++ (ys ++ drop n (drop to out)))
+puts_more done more to n lent out ys p k f =
+    let e = p.count in
+    let behind : drop to out ≡ drop (length done) lent = ap (drop to) p.is ∙ drop_at done (drop (length done) lent) to (sym e) in
+    let front : take to out ≡ done = ap (take to) p.is ∙ take_at done (drop (length done) lent) to (sym e) in
+    let both : drop n (drop to out) ≡ drop (length (done ++ more)) lent =
+    ap (drop n) behind ∙ drop-drop n (length done) lent ∙ ap (λ (m : ℕ). drop m lent) (ap (λ (m : ℕ). length done + m) k ∙ sym (length-append done more)) in
+    record {
+      count = ap₂ ◌+◌ e k ∙ sym (length-append done more);
+      is = ap₂ ◌++◌ front (ap₂ ◌++◌ f both) ∙ sym (append_assoc done more (drop (length (done ++ more)) lent));
+    }
+
 -- More behind them, as it is put into the part from there on.
 pub puts_part : (done more : List ℕ) (to n : ℕ) (lent out ys : List ℕ) → Puts done to lent out → Puts more n (take (length out - to) (drop to out)) ys
     → Puts (done ++ more) (to + n) lent (take to out ++ (ys ++ drop (length out - to) (drop to out)))
@@ -51,13 +73,6 @@ puts_part done more to n lent out ys p q =
           ∙ ap₂ (λ (l m : List ℕ). l ++ (more ++ m)) front both
           ∙ sym (append_assoc done more (drop (length (done ++ more)) lent));
     }
-
--- `!` and two digits.
-pub puts_three : (a b c : ℕ) (lent : List ℕ) → 3 ≤ length lent → Puts (a ∷ b ∷ c ∷ []) 3 lent (set (set (set lent 0 a) 1 b) 2 c)
-puts_three a b c [] h = absurd (omega arith)
-puts_three a b c (x ∷ []) h = absurd (omega arith)
-puts_three a b c (x ∷ y ∷ []) h = absurd (omega arith)
-puts_three a b c (x ∷ y ∷ z ∷ l) h = record { count = refl; is = refl }
 
 -- ---- the list of a name, into the first 447 bytes of what is lent
 
@@ -109,42 +124,66 @@ module _ (plate name out : List ℕ) (long : line_bytes ≤ length out) (a : Cod
   pub puts_refusal : (n : ℕ) (lent buffer : List ℕ) → line_of a ≡ refused_line a.number → lent ≡ out → Puts (refused_line a.number) n lent buffer → Puts (given plate name) n out buffer
   puts_refusal n lent buffer f g p = subst (λ (l : List ℕ). Puts l n out buffer) (sym f ∙ is_given) (subst (λ (l : List ℕ). Puts (refused_line a.number) n l buffer) g p)
 
+-- What is coded by an accepted plate is what list answers.
+pub answered : (plate name out : List ℕ) → accepted plate ≡ true → {a : Coded} → a ≡ coded_by (listed_to 8) (plate_in plate) name (take list_bytes out)
+    → a ≡ list_answer plate name (take list_bytes out)
+answered plate name out h e = e ∙ sym (by_plate 8 plate name (take list_bytes out) h) ∙ list_is plate name (take list_bytes out)
+
+-- A refusal has a number other than 0, and its line.
+pub refused : (e : CodeError) → error_number e ≡ 0 → ⊥
+refused NotAPlate h = omega arith
+refused NameTooLong h = omega arith
+refused (NotUtf8 place) h = omega arith
+refused (CharacterNotAllowed place) h = omega arith
+refused RoomTooSmall h = omega arith
+
+pub is_refused : (e : CodeError) (out : List ℕ) → line_of (told (Err e) out) ≡ refused_line (error_number e)
+is_refused NotAPlate out = refl
+is_refused NameTooLong out = refl
+is_refused (NotUtf8 place) out = refl
+is_refused (CharacterNotAllowed place) out = refl
+is_refused RoomTooSmall out = refl
+
 -- ---- the lines of all names
 
--- The names before a place have their lines in front of the buffer, and for those from there on there is room.
-pub record Done (plate bytes lent : List ℕ) (at to : ℕ) (out : List ℕ) : Type 0 where
+-- The names before those that are left have their lines in front of the buffer, and for those there is room.
+pub record Done (plate : List ℕ) (all left : List (List ℕ)) (lent : List ℕ) (to : ℕ) (out : List ℕ) : Type 0 where
   pub lines : List ℕ
-  pub room : to + line_bytes * length (names (drop at bytes)) ≤ length lent
+  pub room : to + line_bytes * length left ≤ length lent
   pub puts : Puts lines to lent out
-  pub all : lines ++ cat (line plate) (names (drop at bytes)) ≡ cat (line plate) (names bytes)
+  pub whole : lines ++ cat (line plate) left ≡ cat (line plate) all
 
-module _ (plate bytes lent : List ℕ) where
-  pub none_done : line_bytes * length (names bytes) ≤ length lent → Done plate bytes lent 0 0 lent
-  none_done h = record { lines = []; room = omega arith; puts = record { count = refl; is = refl }; all = refl }
+module _ (plate : List ℕ) (all : List (List ℕ)) (lent : List ℕ) where
+  pub none_done : (left : List (List ℕ)) → left ≡ all → line_bytes * length all ≤ length lent → Done plate all left lent 0 lent
+  none_done left e h = rw e (record { lines = []; room = omega arith; puts = record { count = refl; is = refl }; whole = refl })
 
-  module _ (at to : ℕ) (out : List ℕ) (d : Done plate bytes lent at to out) where
+  module _ (left : List (List ℕ)) (to : ℕ) (out : List ℕ) (d : Done plate all left lent to out) where
     -- The line of the next name.
-    pub next_done : (name : List ℕ) (at' : ℕ) → names (drop at bytes) ≡ name ∷ names (drop at' bytes) → (n : ℕ) → n ≤ line_bytes → (ys : List ℕ)
+    pub next_done : (name : List ℕ) (more : List (List ℕ)) → left ≡ name ∷ more → (n : ℕ) → n ≤ line_bytes → (ys : List ℕ)
         → Puts (line plate name) n (take (length out - to) (drop to out)) ys
-        → Done plate bytes lent at' (to + n) (take to out ++ (ys ++ drop (length out - to) (drop to out)))
-    next_done name at' e n h ys p =
+        → Done plate all more lent (to + n) (take to out ++ (ys ++ drop (length out - to) (drop to out)))
+    next_done name more e n h ys p =
         let r = d.room in
         let k = ap length e in
         record {
           lines = d.lines ++ line plate name;
           room = omega arith;
           puts = puts_part d.lines (line plate name) to n lent out ys d.puts p;
-          all =
-              append_assoc d.lines (line plate name) (cat (line plate) (names (drop at' bytes)))
+          whole =
+              append_assoc d.lines (line plate name) (cat (line plate) more)
               ∙ ap (λ (ns : List (List ℕ)). d.lines ++ cat (line plate) ns) (sym e)
-              ∙ d.all;
+              ∙ d.whole;
         }
 
     -- All are written.
-    pub all_done : names (drop at bytes) ≡ [] → Puts (cat (line plate) (names bytes)) to lent out
+    pub all_done : left ≡ [] → Puts (cat (line plate) all) to lent out
     all_done e =
         subst (λ (l : List ℕ). Puts l to lent out)
-        (sym (append-nil d.lines) ∙ ap (λ (ns : List (List ℕ)). d.lines ++ cat (line plate) ns) (sym e) ∙ d.all) d.puts
+        (sym (append-nil d.lines) ∙ ap (λ (ns : List (List ℕ)). d.lines ++ cat (line plate) ns) (sym e) ∙ d.whole) d.puts
 
     pub done_long : length out ≡ length lent
     done_long = let r = d.room in as_long d.lines to lent out d.puts (omega arith)
+
+    -- There is room for one line more.
+    pub room_left : (name : List ℕ) (more : List (List ℕ)) → left ≡ name ∷ more → to + line_bytes ≤ length out
+    room_left name more e = let k = ap length e in let r = d.room in let l = done_long in omega arith

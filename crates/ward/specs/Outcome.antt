@@ -1,11 +1,14 @@
 -- What an answer of ward says: 01's number and the bytes written for each case, and the lent buffer afterwards. Assumes nothing.
-use Rattle.std.specs.Prelude.{ℕ, List}
+use Rattle.std.specs.Prelude.{ℕ, List, Result, Ok, Err}
 use Rattle.ward.specs.Ward.{Written, unwritten}
-use Rattle.ward.specs.declared.Warded.{Warded}
-use Rattle.ward.specs.declared.Warded.TheVariants.{Lines, NotAPlate, ManyNames, RoomTooSmall}
+use Rattle.ward.specs.declared.WardError.{WardError}
+use Rattle.ward.specs.declared.WardError.TheVariants.{NotAPlate, ManyNames, RoomTooSmall}
 
-abbrev pub told : Warded → List ℕ → Written
-told (Lines n) out = record { number = 0; length = n; buffer = out }
-told NotAPlate out = unwritten 10 out
-told ManyNames out = unwritten 1 out
-told RoomTooSmall out = unwritten 12 out
+abbrev pub error_number : WardError → ℕ
+error_number NotAPlate = 10
+error_number ManyNames = 1
+error_number RoomTooSmall = 12
+
+abbrev pub told : Result ℕ WardError → List ℕ → Written
+told (Ok n) out = record { number = 0; length = n; buffer = out }
+told (Err e) out = unwritten (error_number e) out

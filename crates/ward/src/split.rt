@@ -1,10 +1,54 @@
 // The names of a buffer, each closed by a newline.
 ghost use Rattle.std.specs.Prelude.{◌≡◌, ◌+◌, ◌≤◌, length, drop};
+ghost use Rattle.std.specs.Iterator.{YieldsFirstRef, item_count};
 ghost use Rattle.laws.specs.Lists.{until};
 ghost use Rattle.coder.specs.Answer.{smaller};
 ghost use Rattle.ward.specs.Ward.{newline, names};
 
 use chars::scan::count_until;
+use std::marker::Model;
+
+// The names that are left of a buffer, in order.
+#[derive(Drop)]
+pub struct Names<'a> {
+    rest: &'a [u8],
+}
+
+impl<'a> Model for Names<'a> {
+    ghost use Rattle.std.specs.Prelude.{List, ℕ};
+    ghost use Rattle.ward.specs.Ward.{names};
+
+    ghost Value = { List (List ℕ) };
+
+    ghost view = { λ left. names left.rest.now };
+}
+
+impl<'a> Names<'a> {
+    pub fn new(bytes: &'a [u8]) -> Names<'a>
+        ensures { result ≡ names bytes.now }
+    {
+        Names { rest: bytes }
+    }
+}
+
+impl<'a> Iterator for Names<'a> {
+    type Item = &'a [u8];
+
+    ghost next_gives = { YieldsFirstRef (λ left. left) };
+
+    ghost remaining = { item_count (λ left. left) };
+
+    // The next name: up to its newline, or to the end.
+    fn next(&mut self) -> Option<&'a [u8]> {
+        let bytes = self.rest;
+        if bytes.is_empty() {
+            return None;
+        }
+        let end = count_until(bytes, b'\n');
+        self.rest = &bytes[(end + 1).min(bytes.len())..];
+        Some(&bytes[..end])
+    }
+}
 
 // Where the name that begins at a place ends: at its newline, or at the end.
 pub fn name_end(bytes: &[u8], from: usize) -> usize
@@ -18,14 +62,5 @@ pub fn name_end(bytes: &[u8], from: usize) -> usize
 pub fn count_names(bytes: &[u8], most: usize) -> usize
     ensures { result ≡ smaller (most + 1) (length (names bytes.now)) }
 {
-    let mut n: usize = 0;
-    let mut at: usize = 0;
-    while at < bytes.len() {
-        n += 1;
-        if most < n {
-            return n;
-        }
-        at = name_end(bytes, at) + 1;
-    }
-    n
+    Names::new(bytes).take(most.saturating_add(1)).count()
 }

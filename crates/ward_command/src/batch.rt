@@ -1,154 +1,103 @@
 // The names of one call: at most 128 lines of what was read, coded where they stand, and an answer for each.
-use super::Course;
-use super::tally::{is_refused, show, with_line};
-use chars::scan::count_until;
-use front::options::tell_words;
-use front::out::{FAULT, Pen, REFUSED, WARD, put, with_status};
-use front::rooms::{byte, part};
-use front::show::put_name;
-use std::num::{wrapping_add_usize, wrapping_sub_usize};
+ghost use Rattle.std.specs.Prelude.{◌<◌, ◌≤◌, length};
+ghost use Rattle.std.specs.Iterator.{at_most};
+
+use super::Ward;
+use super::tally::is_refused;
+use front::show::Name;
+use front::status::Status;
 use zengilvar::ward_list::dm_ward;
 
 // 02, M-103: "Our program passes at most 128 names a call."
 const NAMES: usize = 128;
 
-// No block that is read has more lines, so more calls are never made for one.
-const CALLS: usize = 16384;
+// Room for their lines, 448 bytes each.
+pub(crate) const LINES_ROOM: usize = 57344;
 
-// Where the line that begins at a place ends: at its newline, or at the end.
-fn line_end(s: &[u8], at: usize) -> usize {
-    wrapping_add_usize(at, count_until(part(s, at, s.len()), b'\n'))
+// The names of a call, and those behind them.
+#[derive(Drop)]
+struct Batches<'a> {
+    rest: &'a [u8],
 }
 
-// No place behind the end.
-fn within(s: &[u8], at: usize) -> usize {
-    if s.len() < at {
-        return s.len();
-    }
-    at
-}
-
-// Where the lines of a call end that begin at a place.
-fn batch_end(s: &[u8], from: usize) -> usize {
-    let mut at = from;
-    for i in 0..NAMES {
-        if s.len() <= at {
-            return s.len();
+// Where the lines of the first call end.
+fn batch_end(names: &[u8]) -> usize
+    requires { 0 < length names.now }
+    ensures some { 0 < result }
+    ensures within { result ≤ length names.now }
+{
+    let mut lines: usize = 0;
+    let last = names.iter().position(|b| {
+        if *b == b'\n' {
+            lines = lines.wrapping_add(1);
         }
-        at = wrapping_add_usize(line_end(s, at), 1);
-    }
-    within(s, at)
-}
-
-// The end of a name without the CR that some systems put before a newline.
-fn name_end(s: &[u8], from: usize, end: usize) -> usize {
-    if end <= from {
-        return end;
-    }
-    let last = wrapping_sub_usize(end, 1);
-    if byte(s, last) == b'\r' {
-        return last;
-    }
-    end
-}
-
-fn put_front(out: &mut [u8], pen: Pen, name: &[u8], bare: bool) -> Pen {
-    if bare {
-        return pen;
-    }
-    let pen = put_name(out, pen, name);
-    put(out, pen, b"\t")
-}
-
-fn status_of(pen: Pen, line: &[u8]) -> Pen {
-    if is_refused(line) {
-        return with_status(pen, REFUSED);
-    }
-    pen
-}
-
-// The answer on one name.
-fn put_line(out: &mut [u8], run: Course, name: &[u8], line: &[u8], bare: bool) -> Course {
-    let pen = run.pen;
-    let pen = put_front(out, pen, name, bare);
-    let pen = put(out, pen, line);
-    let pen = put(out, pen, b"\n");
-    let counted = run.tally;
-    Course {
-        pen: status_of(pen, line),
-        tally: with_line(counted, line),
+        lines == NAMES
+    });
+    match last {
+        Some(n) => n + 1,
+        None => names.len(),
     }
 }
 
-// The answers on all of them: the lines of the call beside its names.
-fn put_batch(out: &mut [u8], run: Course, names: &[u8], lines: &[u8], bare: bool) -> Course {
-    let mut r = run;
-    let mut at: usize = 0;
-    let mut to: usize = 0;
-    for i in 0..NAMES {
-        if names.len() <= at {
-            return r;
+impl<'a> Iterator for Batches<'a> {
+    type Item = &'a [u8];
+
+    ghost remaining = { λ s. at_most (length s.rest.now) };
+
+    fn next(&mut self) -> Option<&'a [u8]> {
+        if self.rest.is_empty() {
+            return None;
         }
-        let end = line_end(names, at);
-        let stop = line_end(lines, to);
-        let name = part(names, at, name_end(names, at, end));
-        r = put_line(out, r, name, part(lines, to, stop), bare);
-        at = wrapping_add_usize(end, 1);
-        to = wrapping_add_usize(stop, 1);
-    }
-    r
-}
-
-fn shown(run: Course) -> Course {
-    let pen = run.pen;
-    let counted = run.tally;
-    Course {
-        pen: pen,
-        tally: show(&pen.rt, counted),
+        let names = self.rest;
+        let (batch, behind) = names.split_at(batch_end(names));
+        self.rest = behind;
+        Some(batch)
     }
 }
 
-fn code_batch(
-    out: &mut [u8],
-    run: Course,
-    plate: &[u8],
-    lines: &mut [u8],
-    names: &[u8],
-    bare: bool,
-) -> Course {
-    let r = dm_ward(plate, names, lines);
-    if r.number != 0 {
-        let pen = run.pen;
-        tell_words(&pen.rt, WARD, b"the library refused a list", b"\n");
-        let counted = run.tally;
-        return Course {
-            pen: with_status(pen, FAULT),
-            tally: counted,
-        };
-    }
-    let run = put_batch(out, run, names, part(lines, 0, r.length as usize), bare);
-    shown(run)
-}
-
-// All lines of what was read, from a place on, in as many calls as it takes.
-pub(crate) fn take_lines(
-    out: &mut [u8],
-    run: Course,
-    plate: &[u8],
-    lines: &mut [u8],
-    names: &[u8],
-    from: usize,
-    bare: bool,
-) -> Course {
-    let mut r = run;
-    let mut at = from;
-    for i in 0..CALLS {
-        if names.len() <= at {
-            return r;
+impl Ward<'_, '_> {
+    // The answer on one name, without the CR that some systems put before a newline.
+    fn put_line(&mut self, name: &[u8], line: &[u8]) {
+        let name = name.strip_suffix(b"\n").unwrap_or(name);
+        if !self.is_bare {
+            self.out.say(Name(name.strip_suffix(b"\r").unwrap_or(name)));
+            self.out.put(b"\t");
         }
-        let end = batch_end(names, at);
-        r = code_batch(out, r, plate, lines, part(names, at, end), bare);
-        at = end;
+        self.out.put(line);
+        if is_refused(line) {
+            self.out.worsen(Status::Refused);
+        }
+        self.tally.count(line);
     }
-    r
+
+    // The answers on all of them: the lines of the call beside its names.
+    fn put_batch(&mut self, names: &[u8], lines: &[u8]) {
+        let is_newline = |b: &u8| *b == b'\n';
+        for (name, line) in names
+            .split_inclusive(is_newline)
+            .zip(lines.split_inclusive(is_newline))
+        {
+            self.put_line(name, line);
+        }
+    }
+
+    fn code_batch(&mut self, lines: &mut [u8], names: &[u8]) {
+        let host = self.out.host();
+        let r = dm_ward(self.plate, names, lines);
+        // Stays: the number is C's, and 0 that of no refusal; which one it is, is not told.
+        if r.number != 0 {
+            host.tell("the library refused a list\n");
+            self.out.worsen(Status::Fault);
+            return;
+        }
+        self.put_batch(names, lines.get(..r.length as usize).unwrap_or_default());
+        self.tally.show(host);
+    }
+
+    // All lines of what was read, in as many calls as it takes.
+    pub(crate) fn take_lines(&mut self, lines: &mut [u8], names: &[u8]) {
+        for batch in (Batches { rest: names }) {
+            self.code_batch(lines, batch);
+        }
+    }
 }

@@ -2,163 +2,89 @@
 #![tactic(auto)]
 
 mod help; // help.rt: the page
-mod words; // words.rt: the arguments
 mod tally; // tally.rt: how many names there were, and how many were refused
 mod batch; // batch.rt: the names of one call
-mod input; // input.rt: an input read in blocks
+mod input; // input.rt: an input, its whole lines at once
 
+use batch::LINES_ROOM;
+use files::path::FilePath;
 use files::read::fill_gaps;
-use front::options::{NO_VALUE, NOTHING, OPERAND, arg_count, tell, why_not, word};
-use front::out::{ANSWERED, FAULT, Pen, WARD, answers, flush};
-use front::rooms::{chunk_room, out_room, part, plate_room};
-use names::given::load;
+use front::arguments::Arguments;
+use front::host::{Host, Program};
+use front::options::{Kind, Scan, not_taken, word};
+use front::out::Out;
+use front::rooms::{FILE_ROOM, OUT_ROOM, WORD_ROOM};
+use front::status::Status;
+use help::PAGE;
+use names::given::{is_input, load};
 use tally::Tally;
-use words::Words;
 
-// How the run goes: what is said, and what was counted.
-#[derive(Clone, Copy)]
-pub(crate) struct Course {
-    pen: Pen,
+// How the run goes: what is said, and what was counted; and by what names are answered: the plate, with no name in front where that is asked.
+#[derive(Drop)]
+pub(crate) struct Ward<'a, 'p> {
+    out: Out<'a>,
     tally: Tally,
+    plate: &'p [u8],
+    is_bare: bool,
+    // Whether the plate was standard input.
+    is_spent: bool,
 }
 
-// Room for the lines of 128 names, 448 bytes each.
-fn lines_room() -> [u8; 57344] {
-    [0; 57344]
+impl Ward<'_, '_> {
+    // The file that an argument names.
+    fn take_argument(&mut self, lines: &mut [u8], chunk: &mut [u8], i: usize) {
+        let host = self.out.host();
+        let mut room = [0; WORD_ROOM];
+        match word(&host.rt, i, &mut room) {
+            Ok(path) => self.take_path(lines, chunk, FilePath::new(host, path)),
+            Err(error) => self.out.worsen(FilePath::new(host, &room).fault(error)),
+        }
+    }
+
+    fn take_arguments(&mut self, lines: &mut [u8], chunk: &mut [u8]) {
+        let host = self.out.host();
+        for (i, scan) in Arguments::of(host) {
+            if self.out.status() == Status::Fault {
+                break;
+            }
+            if scan.kind == Kind::Operand {
+                self.take_argument(lines, chunk, i);
+            }
+        }
+    }
 }
 
-// The file that an argument names.
-fn take_argument(
-    out: &mut [u8],
-    run: Course,
-    plate: &[u8],
-    lines: &mut [u8],
-    chunk: &mut [u8],
-    i: usize,
-    bare: bool,
-) -> Course {
-    let pen = run.pen;
-    let mut path = io::buffer();
-    let v = word(&pen.rt, i, &mut path);
-    if !v.is_whole {
-        return input::cannot(run, &path, why_not(v));
-    }
-    let named = part(&path, v.start, v.end);
-    input::take_path(out, run, plate, lines, chunk, named, bare)
-}
-
-// What the argument at a place asks for, if it is a file.
-fn take_next(
-    out: &mut [u8],
-    run: Course,
-    plate: &[u8],
-    lines: &mut [u8],
-    chunk: &mut [u8],
-    w: Words,
-    i: usize,
-    bare: bool,
-) -> Course {
-    let pen = run.pen;
-    if pen.status == FAULT {
-        return run;
-    }
-    if w.kind == OPERAND {
-        return take_argument(out, run, plate, lines, chunk, i, bare);
-    }
-    run
-}
-
-fn take_arguments(
-    out: &mut [u8],
-    run: Course,
-    plate: &[u8],
-    lines: &mut [u8],
-    chunk: &mut [u8],
-    bare: bool,
-) -> Course {
-    let pen = run.pen;
-    let mut w = words::none();
-    let mut r = run;
-    let end = arg_count(&pen.rt);
-    if end <= 1 {
-        return r;
-    }
-    for i in 1..end {
-        w = words::next(&pen.rt, w, i);
-        r = take_next(out, r, plate, lines, chunk, w, i, bare);
-    }
-    r
-}
-
-// All files, or standard input where none is named.
-fn take_all(
-    out: &mut [u8],
-    run: Course,
-    plate: &[u8],
-    lines: &mut [u8],
-    chunk: &mut [u8],
-    w: Words,
-) -> Course {
-    let s = w.scan;
-    if s.first == 0 {
-        return input::take_path(out, run, plate, lines, chunk, b"-", w.bare);
-    }
-    take_arguments(out, run, plate, lines, chunk, w.bare)
-}
-
-fn serve(rt: &HostRuntime, plate: &[u8], w: Words) -> i32 {
-    let run = Course {
-        pen: answers(rt, WARD),
-        tally: tally::nothing(rt),
+fn serve(host: Host, plate: &[u8], scan: &Scan) -> Status {
+    let mut room = [0; OUT_ROOM];
+    let mut ward = Ward {
+        out: Out::answers(host, &mut room),
+        tally: Tally::new(host),
+        plate,
+        is_bare: scan.bare,
+        is_spent: is_input(host, scan.plate),
     };
-    let mut out = out_room();
-    let mut lines = lines_room();
-    let mut chunk = chunk_room();
-    let run = take_all(&mut out, run, plate, &mut lines, &mut chunk, w);
-    let pen = run.pen;
-    let pen = flush(&out, pen);
-    let counted = run.tally;
-    tally::tell(rt, counted);
-    pen.status
-}
-
-fn serve_by(rt: &HostRuntime, w: Words) -> i32 {
-    let s = w.scan;
-    let mut plate = plate_room();
-    let given = load(rt, WARD, s.plate, &mut plate);
-    if given.status != ANSWERED {
-        return given.status;
+    let mut lines = [0; LINES_ROOM];
+    let mut chunk = [0; OUT_ROOM];
+    // All files, or standard input where none is named.
+    match scan.operands[0] {
+        Some(_) => ward.take_arguments(&mut lines, &mut chunk),
+        None => ward.take_path(&mut lines, &mut chunk, FilePath::new(host, b"-")),
     }
-    let n = given.count;
-    serve(rt, part(&plate, 0, n), w)
+    let status = ward.out.finish();
+    ward.tally.tell(host);
+    status
 }
 
-fn misused(rt: &HostRuntime, fault: u8, i: usize) -> i32 {
-    tell(rt, WARD, fault, i, b"; ward --help tells more\n")
+fn serve_by(host: Host, scan: &Scan) -> Result<Status, Status> {
+    not_taken(host, scan.names)?;
+    not_taken(host, scan.flat)?;
+    let mut room = [0; FILE_ROOM];
+    let plate = load(host, scan.plate, &mut room)?;
+    Ok(serve(host, plate, scan))
 }
 
-// The status of the process.
-pub fn run(rt: &HostRuntime) -> i32 {
+// How the process ends.
+pub fn run(rt: &HostRuntime) -> Status {
     fill_gaps(rt);
-    let w = words::all(rt);
-    let s = w.scan;
-    if s.fault != NOTHING {
-        return misused(rt, s.fault, s.at);
-    }
-    if w.missing != 0 {
-        return misused(rt, NO_VALUE, w.missing);
-    }
-    if s.help {
-        return help::page(rt);
-    }
-    if s.version {
-        return help::version(rt);
-    }
-    if s.names != 0 {
-        return misused(rt, NOTHING, s.names);
-    }
-    if s.flat != 0 {
-        return misused(rt, NOTHING, s.flat);
-    }
-    serve_by(rt, w)
+    front::help::run(Host::new(rt, Program::Ward), PAGE, serve_by)
 }

@@ -3,16 +3,14 @@
 
 ghost use Rattle.builder.specs.Build.{build_answer};
 ghost use Rattle.coder.specs.Answer.{list_answer, encode_answer};
-ghost use Rattle.builder.specs.Survey.{fault_number};
-ghost use Rattle.book.specs.Note.{flaw_number};
 ghost use Rattle.builder.specs.Outcome as build;
 ghost use Rattle.coder.specs.Outcome as code;
 ghost use Rattle.zengilvar.specs.Numbers.{built, coded};
+ghost use Rattle.zengilvar.specs.Ward.{written_of};
 ghost use Rattle.std.specs.Prelude.{◌≡◌, List, ℕ};
 
-use book::Flaw;
-use builder::{Built, Fault, build};
-use coder::Coded;
+use builder::{BuildError, build};
+use coder::CodeError;
 use coder::answer::{encode, list};
 
 pub mod is_plate; // is_plate.rt: whether bytes are a plate
@@ -54,80 +52,72 @@ pub struct DmWritten {
     pub length: u64,
 }
 
-// 01's number of a fault.
-fn flaw_number(flaw: Flaw) -> u64
-    ensures { result ≡ flaw_number flaw }
-{
-    match flaw {
-        Flaw::EmptyPattern => 4,
-        Flaw::LongPattern => 5,
-        Flaw::ManyAlternatives => 6,
-        Flaw::NotDigits => 7,
-        Flaw::TooMany => 8,
-    }
-}
-
-fn fault_number(fault: Fault) -> u64
-    ensures { result ≡ fault_number fault }
-{
-    match fault {
-        Fault::NotRecognised => 3,
-        Fault::Flawed(flaw) => flaw_number(flaw),
-    }
-}
-
-fn built_refusal(number: u64, line: u64) -> DmBuilt
-    ensures { result ≡ record { number = number; line = line; length = 0 } }
-{
-    DmBuilt {
-        number: number,
-        line: line,
-        length: 0,
+impl DmBuilt {
+    fn refused(number: u64, line: usize) -> DmBuilt
+        ensures { result ≡ record { number = number; line = line; length = 0 } }
+    {
+        DmBuilt {
+            number,
+            line: line as u64,
+            length: 0,
+        }
     }
 }
 
 // 01's number, line and length of what build answers.
-fn built_numbers(b: Built) -> DmBuilt
-    ensures { (out : List ℕ) → built result out ≡ build.told b out }
-{
-    match b {
-        Built::Plate(n) => DmBuilt {
-            number: 0,
-            line: 0,
-            length: n as u64,
-        },
-        Built::LongText => built_refusal(1, 0),
-        Built::NotText => built_refusal(2, 0),
-        Built::Faulty(fault, line) => built_refusal(fault_number(fault), line as u64),
-        Built::ShortBuffer => built_refusal(9, 0),
-    }
-}
+impl From<Result<usize, BuildError>> for DmBuilt {
+    ghost from_gives = { λ answer r. (out : List ℕ) → built r out ≡ build.told answer out };
 
-fn coded_refusal(number: u64, place: u64) -> DmCoded
-    ensures { result ≡ record { number = number; count = 0; place = place } }
-{
-    DmCoded {
-        number: number,
-        count: 0,
-        place: place,
+    fn from(answer: Result<usize, BuildError>) -> DmBuilt {
+        match answer {
+            Ok(n) => DmBuilt {
+                number: 0,
+                line: 0,
+                length: n as u64,
+            },
+            Err(BuildError::LongText) => DmBuilt::refused(1, 0),
+            Err(BuildError::NotText) => DmBuilt::refused(2, 0),
+            Err(BuildError::Faulty(fault, line)) => DmBuilt::refused(fault.number(), line),
+            Err(BuildError::ShortBuffer) => DmBuilt::refused(9, 0),
+        }
     }
 }
 
 // 01's number and count of what encode and list answer, and the place.
-fn coded_numbers(c: Coded) -> DmCoded
-    ensures { (out : List ℕ) → coded result out ≡ code.told c out }
-{
-    match c {
-        Coded::Codes(n) => DmCoded {
-            number: 0,
-            count: n as u64,
-            place: 0,
-        },
-        Coded::NotAPlate => coded_refusal(10, 0),
-        Coded::NameTooLong => coded_refusal(1, 0),
-        Coded::NotUtf8(place) => coded_refusal(2, place as u64),
-        Coded::CharacterNotAllowed(place) => coded_refusal(11, place as u64),
-        Coded::RoomTooSmall => coded_refusal(12, 0),
+impl From<Result<usize, CodeError>> for DmCoded {
+    ghost from_gives = { λ answer r. (out : List ℕ) → coded r out ≡ code.told answer out };
+
+    fn from(answer: Result<usize, CodeError>) -> DmCoded {
+        match answer {
+            Ok(n) => DmCoded {
+                number: 0,
+                count: n as u64,
+                place: 0,
+            },
+            Err(error) => DmCoded {
+                number: u64::from(error.number()),
+                count: 0,
+                place: error.place() as u64,
+            },
+        }
+    }
+}
+
+// The length that was written, or the number of an error.
+impl From<Result<usize, u8>> for DmWritten {
+    ghost from_gives = { λ answer r. r ≡ written_of answer };
+
+    fn from(answer: Result<usize, u8>) -> DmWritten {
+        match answer {
+            Ok(n) => DmWritten {
+                number: 0,
+                length: n as u64,
+            },
+            Err(number) => DmWritten {
+                number: u64::from(number),
+                length: 0,
+            },
+        }
     }
 }
 
@@ -136,8 +126,7 @@ fn coded_numbers(c: Coded) -> DmCoded
 pub extern "C" fn dm_build(text: &[u8], folding: bool, plate: &mut [u8]) -> DmBuilt
     ensures { built result plate.new ≡ build_answer text.now folding plate.old }
 {
-    let b = build(text, folding, plate);
-    built_numbers(b)
+    DmBuilt::from(build(text, folding, plate))
 }
 
 // One code of a name, written to the front of `out`.
@@ -145,8 +134,7 @@ pub extern "C" fn dm_build(text: &[u8], folding: bool, plate: &mut [u8]) -> DmBu
 pub extern "C" fn dm_encode(plate: &[u8], name: &[u8], out: &mut [u8]) -> DmCoded
     ensures { coded result out.new ≡ encode_answer plate.now name.now out.old }
 {
-    let c = encode(plate, name, out);
-    coded_numbers(c)
+    DmCoded::from(encode(plate, name, out))
 }
 
 // All codes of a name, a bar between two, written to the front of `out`.
@@ -154,6 +142,5 @@ pub extern "C" fn dm_encode(plate: &[u8], name: &[u8], out: &mut [u8]) -> DmCode
 pub extern "C" fn dm_list(plate: &[u8], name: &[u8], out: &mut [u8]) -> DmCoded
     ensures { coded result out.new ≡ list_answer plate.now name.now out.old }
 {
-    let c = list(plate, name, out);
-    coded_numbers(c)
+    DmCoded::from(list(plate, name, out))
 }

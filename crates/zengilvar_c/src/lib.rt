@@ -1,4 +1,5 @@
-// The library as an archive for C and Rust: a crate is a library or an archive, so each function that include/zengilvar.h declares stands here once more, with the
+// The library as an archive for C and Rust.
+// Stays: a crate is a library or an archive, and the names of C must stand in the archive, so each function that include/zengilvar.h declares stands here once more, with the
 // clauses of the library's, and calls it.
 #![tactic(auto)]
 

@@ -8,31 +8,31 @@ pub slice_bounds-dm_list-end : goal.slice_bounds-dm_list-end
 slice_bounds-dm_list-end c =
     let a = c.args in
     let bytes = bytes_of a.text.now (λ k. omega (arith, c.shared_slice_known-1.given k)) in
-    within a.text.now a.folding a.plate.now bytes c.dm_build-b.result _ c.dm_build-b.ensures
+    within a.text.now a.folding a.plate.now bytes c.dm_build-one.result _ c.dm_build-one.ensures
 
 pub slice_bounds-dm_list-end-2 : goal.slice_bounds-dm_list-end-2
 slice_bounds-dm_list-end-2 c =
     let a = c.args in
     let bytes = bytes_of a.text.now (λ k. omega (arith, c.shared_slice_known-1.given k)) in
-    part a.text.now a.folding a.plate.now bytes c.dm_build-b.result _ c.dm_build-b.ensures
+    part a.text.now a.folding a.plate.now bytes c.dm_build-one.result _ c.dm_build-one.ensures
 
 pub slice_bounds-dm_list-end-3 : goal.slice_bounds-dm_list-end-3
 slice_bounds-dm_list-end-3 c =
     let a = c.args in
     let bytes = bytes_of a.other.now (λ k. omega (arith, c.shared_slice_known-2-1.given k)) in
-    within a.other.now a.folding a.plate2.now bytes c.dm_build-c.result _ c.dm_build-c.ensures
+    within a.other.now a.folding a.plate2.now bytes c.dm_build-two.result _ c.dm_build-two.ensures
 
 pub slice_bounds-dm_list-end-4 : goal.slice_bounds-dm_list-end-4
 slice_bounds-dm_list-end-4 c =
     let a = c.args in
     let bytes = bytes_of a.other.now (λ k. omega (arith, c.shared_slice_known-2-1.given k)) in
-    part a.other.now a.folding a.plate2.now bytes c.dm_build-c.result _ c.dm_build-c.ensures
+    part a.other.now a.folding a.plate2.now bytes c.dm_build-two.result _ c.dm_build-two.ensures
 
 pub returns : goal.returns
 returns c =
     let a = c.args in
     lists_order a.text.now a.other.now a.folding a.plate.now a.plate2.now
     (bytes_of a.text.now (λ k. omega (arith, c.shared_slice_known-1.given k))) (bytes_of a.other.now (λ k. omega (arith, c.shared_slice_known-2-1.given k)))
-    c.dm_build-b.result c.dm_build-c.result _ _
-    c.dm_build-b.ensures c.dm_build-c.ensures
+    c.dm_build-one.result c.dm_build-two.result _ _
+    c.dm_build-one.ensures c.dm_build-two.ensures
     a.name.now a.out.now a.more.now _ _ c.dm_list-first.ensures c.dm_list-second.ensures

@@ -7,33 +7,33 @@ pub slice_bounds-dm_list-end : goal.slice_bounds-dm_list-end
 slice_bounds-dm_list-end c =
     let a = c.args in
     let bytes = bytes_of a.text.now (λ k. omega (arith, c.shared_slice_known-1.given k)) in
-    within a.text.now a.folding a.plate.now bytes c.dm_build-b.result _ c.dm_build-b.ensures
+    within a.text.now a.folding a.plate.now bytes c.dm_build-one.result _ c.dm_build-one.ensures
 
 pub slice_bounds-dm_list-end-2 : goal.slice_bounds-dm_list-end-2
 slice_bounds-dm_list-end-2 c =
     let a = c.args in
     let bytes = bytes_of a.text.now (λ k. omega (arith, c.shared_slice_known-1.given k)) in
-    part a.text.now a.folding a.plate.now bytes c.dm_build-b.result _ c.dm_build-b.ensures
+    part a.text.now a.folding a.plate.now bytes c.dm_build-one.result _ c.dm_build-one.ensures
 
 pub slice_bounds-dm_list-end-3 : goal.slice_bounds-dm_list-end-3
 slice_bounds-dm_list-end-3 c =
     let a = c.args in
     let bytes = bytes_of a.wide.now (λ k. omega (arith, c.shared_slice_known-2-1.given k)) in
-    within a.wide.now a.folding a.plate2.now bytes c.dm_build-c.result _ c.dm_build-c.ensures
+    within a.wide.now a.folding a.plate2.now bytes c.dm_build-two.result _ c.dm_build-two.ensures
 
 pub slice_bounds-dm_list-end-4 : goal.slice_bounds-dm_list-end-4
 slice_bounds-dm_list-end-4 c =
     let a = c.args in
     let bytes = bytes_of a.wide.now (λ k. omega (arith, c.shared_slice_known-2-1.given k)) in
-    part a.wide.now a.folding a.plate2.now bytes c.dm_build-c.result _ c.dm_build-c.ensures
+    part a.wide.now a.folding a.plate2.now bytes c.dm_build-two.result _ c.dm_build-two.ensures
 
 pub returns : goal.returns
 returns c =
     let a = c.args in
     texts a.text.now a.wide.now a.folding a.plate.now a.plate2.now
     (bytes_of a.text.now (λ k. omega (arith, c.shared_slice_known-1.given k))) (bytes_of a.wide.now (λ k. omega (arith, c.shared_slice_known-2-1.given k)))
-    c.dm_build-b.result c.dm_build-c.result _ _
-    (bytes_of c.dm_build-b.new.plate (λ k. omega (arith, c.slice_known-5-1.given k))) (bytes_of c.dm_build-c.new.plate (λ k. omega (arith, c.slice_known-6-1.given k)))
-    c.dm_build-b.ensures c.dm_build-c.ensures
+    c.dm_build-one.result c.dm_build-two.result _ _
+    (bytes_of c.dm_build-one.new.plate (λ k. omega (arith, c.slice_known-5-1.given k))) (bytes_of c.dm_build-two.new.plate (λ k. omega (arith, c.slice_known-6-1.given k)))
+    c.dm_build-one.ensures c.dm_build-two.ensures
     a.name.now a.out.now a.more.now c.dm_list-first.result c.dm_list-second.result _ _
     c.dm_list-first.ensures c.dm_list-second.ensures

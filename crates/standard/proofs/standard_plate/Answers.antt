@@ -4,4 +4,4 @@ use Rattle.standard.proofs.Constant.{constant_built, constant_accepted}
 use Rattle.standard.proofs.standard_plate.Goals as goal
 
 pub returns : goal.returns
-returns c = record { value = constant_built; result_value = constant_accepted; value_2 = refl }
+returns c = record { value = constant_built; is_plate = constant_accepted; len = refl }

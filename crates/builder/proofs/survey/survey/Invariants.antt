@@ -9,8 +9,7 @@ use Rattle.builder.specs.Survey.{SoFar, onward}
 use Rattle.builder.proofs.survey.survey.Given as goal
 
 abbrev pub invariant-loop-at : goal.invariant-loop-at
-invariant-loop-at l =
-    SoFar l.text l.at l.tally l.keys l.seen l.foldings × (onward l.text l.at l.tally l.keys l.foldings ≡ verdict blank (items l.text))
+invariant-loop-at l = SoFar l.text l.at l.notes × (onward l.text l.at l.notes ≡ verdict blank (items l.text))
 
 abbrev pub decreases-loop-at : goal.decreases-loop-at
 decreases-loop-at l = length l.text - l.at

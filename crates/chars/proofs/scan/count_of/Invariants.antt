@@ -1,13 +1,7 @@
--- `scan::count_of` meets its contract. The loop keeps: the bytes that are b are those counted and those from here on.
--- A turn is Counts.count_hit or Counts.count_step, the way out Counts.count_end. Assumes nothing.
-use mathlib.Core.Path.{◌≡◌}
-use Prim.Native.Nat.{◌+◌, ◌-◌, ◌≤◌}
-use lib.ListN.{length, drop}
-use Rattle.laws.specs.Lists.{count_of}
+-- `scan::count_of` meets its contract. The loop keeps: those counted are the bytes so far that are b. Assumes nothing.
+use Rattle.std.proofs.Common.{◌≡◌, eqb, take}
+use Rattle.std.specs.List.{count_by}
 use Rattle.chars.proofs.scan.count_of.Given as goal
 
-abbrev pub invariant-loop-i : goal.invariant-loop-i
-invariant-loop-i l = (l.i ≤ length l.s) × (l.n ≤ l.i) × (count_of l.b l.s ≡ l.n + count_of l.b (drop l.i l.s))
-
-abbrev pub decreases-loop-i : goal.decreases-loop-i
-decreases-loop-i l = length l.s - l.i
+abbrev pub invariant-loop-x : goal.invariant-loop-x
+invariant-loop-x l = l.n ≡ count_by (λ x. eqb x l.b) (take l.x-index l.s)

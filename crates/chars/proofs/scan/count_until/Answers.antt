@@ -1,23 +1,22 @@
--- `scan::count_until` meets its contract. The loop keeps: the bytes before the first b are those passed and those from here on.
--- A turn is Counts.until_step, the ways out Counts.until_hit and Counts.until_end. Assumes nothing.
-use native.Mathlib.Omega.{arith}
-use Rattle.laws.proofs.Counts.{until_end, until_hit, until_step}
+-- `scan::count_until` meets its contract: `position` answers the first place that passes (Counted.until_is). Assumes nothing.
+use Rattle.std.proofs.Common.{◌≡◌, ℕ, ◌≤◌, length, eqb, ltb, cond, not, Some, None, unwrap_or, ap, sym, ◌∙◌, arith, rules, tests}
+use Rattle.std.specs.List.{position_or_len}
+use Rattle.std.proofs.lemmas.Bool.Decides.{nat_tests}
+use Rattle.std.proofs.lemmas.Iterator.{YieldsList-from_slice}
+use Rattle.std.proofs.lemmas.Iterator.Search.{position_from_yields_List}
+use Rattle.std.proofs.lemmas.List.Sums.{prefix_len-le-length}
+use Rattle.chars.proofs.Counted.{until_is}
 use Rattle.chars.proofs.scan.count_until.Goals as goal
 
-pub loop-i-init : goal.loop-i-init
-loop-i-init c = (omega arith, omega arith)
-
-pub returns-then-rest-i : goal.returns-then-rest-i
-returns-then-rest-i c =
-    let a = c.args in
-    let i = c.loop-i.i in
-    omega (arith, until_hit a.rest.now i (omega arith) a.b c.if-rest-i.true)
-
-pub loop-i-preserved : goal.loop-i-preserved
-loop-i-preserved c =
-    let a = c.args in
-    let i = c.loop-i.i in
-    omega (arith, until_step a.rest.now i (omega arith) a.b c.if-rest-i.false)
+first_or_all : (p n : ℕ) → p ≤ n → unwrap_or (cond (ltb p n) (Some p) None) n ≡ p
+first_or_all p n h = grind (arith, nat_tests)
 
 pub returns : goal.returns
-returns c = omega (arith, until_end c.args.rest.now c.loop-i.i c.args.b (omega arith))
+returns c =
+    let l = c.args.rest.now in
+    let b = c.args.b in
+    let e = position_from_yields_List (λ x. eqb x b) _ _ c.position.result c.position.ensures.ran (YieldsList-from_slice l cc) (λ x t q k. search (rules, tests)) in
+    let f = until_is b l in
+    let n = prefix_len-le-length (λ x. not (eqb x b)) l in
+    let g : c.unwrap_or.result ≡ position_or_len (λ x. eqb x b) l = c.unwrap_or.ensures ∙ ap (λ o. unwrap_or o (length l)) e ∙ first_or_all _ _ n in
+    (g ∙ sym f, omega arith)

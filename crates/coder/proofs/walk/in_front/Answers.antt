@@ -1,20 +1,7 @@
--- `walk::in_front` meets its contract: so many bytes fit behind so many zeros; of no bytes the number is 0. Assumes nothing.
-use Prim.Native.Nat.{ℕ, ◌-◌, ◌*◌, ◌^◌, ◌<◌}
-use mathlib.Core.Path.{◌≡◌, sym, ap, ◌∙◌}
-use native.Mathlib.Nat.{zero-mul}
-use native.Mathlib.Omega.{arith}
+-- `walk::in_front` meets its contract: so many bytes fit behind so many zeros. Assumes nothing.
+use Rattle.std.proofs.Common.{ℕ, ◌-◌, ◌*◌, ap, arith}
 use lib.Pow.{shl_exact}
 use Rattle.coder.proofs.walk.in_front.Goals as goal
-
--- No bytes.
-none : (bytes plain : ℕ) → plain ≡ 0 → bytes < 2 ^ (8 * plain) → 0 ≡ bytes * 2 ^ (64 - 8 * plain)
-none bytes plain e h =
-    let few : bytes < 1 = rw e at h in
-    let z : bytes ≡ 0 = omega arith in
-    sym (ap (λ (b : ℕ). b * 2 ^ (64 - 8 * plain)) z ∙ zero-mul (2 ^ (64 - 8 * plain)))
-
-pub returns-then-plain-eq0 : goal.returns-then-plain-eq0
-returns-then-plain-eq0 c = ap (λ (w : ℕ). record { word = w; plain = c.args.plain }) (none c.args.bytes c.args.plain c.if-plain-eq0.true c.requires.1)
 
 pub returns : goal.returns
 returns c =

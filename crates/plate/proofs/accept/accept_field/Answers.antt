@@ -1,95 +1,68 @@
 -- `plate::accept::accept_field` meets its contract: a single alternative stands behind the count in the same window; of others those left are good and end
 -- where all do, each turn takes the first one off, and no more than 27 bits pass. Assumes nothing.
-use Rattle.std.proofs.Common.{◌≡◌, ℕ, ◌+◌, sym, refl, ap, ◌∙◌, add-zero, arith}
-use Rattle.plate.specs.Most.{field_most, alternative_most}
-use Rattle.plate.proofs.Accepted.{alternatives_turn, alternatives_stop, alternatives_end, field_none, field_over, field_is, field_one, up_further}
+use Rattle.std.proofs.Common.{ℕ, ◌+◌, ◌-◌, sym, ap, ◌∙◌, add-zero, arith}
 use Rattle.plate.specs.Bits.{number_at}
+use Rattle.plate.specs.Most.{field_most, alternative_most}
+use Rattle.plate.specs.Answers.{alternatives_step}
+use Rattle.plate.proofs.Accepted.{alternatives_turn, alternatives_end, field_none, field_over, field_is, field_one, up_further}
 use Rattle.plate.proofs.Windows.{front, shifted}
-use Rattle.plate.proofs.accept.accept_field.Tie as tie
-use Rattle.plate.proofs.accept.accept_field.Lts as places
-use Rattle.plate.proofs.accept.accept_field.Reads as reads
+use Rattle.plate.proofs.accept.accept_field.Goals.{then-n-lt1-via-then-n-lt1, then-n-lt1-via-else-n-lt1+then-n-gt-MOST_ALTERNATIVES}
 use Rattle.plate.proofs.accept.accept_field.Goals as goal
 
-abbrev After-part : Type 0
-After-part = places.After-part tie.the-claims reads.Pre reads.Post goal.the-invariant-loop-left goal.the-decreases-loop-left
-
--- The number read is the count.
-counted : (c : After-part) → let a = c.args in c.part-n.result ≡ number_at a.plate.now a.at 4
-counted c =
-    let a = c.args in
-    c.part-n.ensures.1 a.plate.now a.at 57 (omega arith) (omega arith) c.window-w.ensures
-    ∙ ap (λ (p : ℕ). number_at a.plate.now p 4) (add-zero a.at)
-
-pub window-w-requires : goal.window-w-requires
-window-w-requires c = tt
-
-pub short_field-bits-requires : goal.short_field-bits-requires
-short_field-bits-requires c = tt
-
-pub returns-then-bits-gt0 : goal.returns-then-bits-gt0
-returns-then-bits-gt0 c =
-    let a = c.args in
-    let s = a.plate.now in
+pub returns-in-Some : goal.returns-in-Some
+returns-in-Some c =
+    let s = c.args.plate.now in
+    let at = c.args.at in
     let w = c.window-w in
-    let b = c.short_field-bits in
-    let few = b.ensures.0 in
-    (b.ensures.1 (λ e. omega arith) s a.at (front s a.at 57 w.result w.ensures (omega arith) 26 (omega arith)), omega arith)
-
-pub part-n-requires : goal.part-n-requires
-part-n-requires c = (omega arith, omega arith, omega arith)
+    let b = c.in-Some.ensures in
+    let few = b.0 in
+    (b.1 s at (front s at 57 w.result w.ensures (omega arith) 26 (omega arith)), omega arith)
 
 pub returns-then-n-eq1 : goal.returns-then-n-eq1
 returns-then-n-eq1 c =
-    let a = c.args in
-    let w = c.window-w.result in
-    let behind = shifted a.plate.now a.at 57 w c.window-w.ensures (omega arith) 4 (omega arith) in
+    let s = c.args.plate.now in
+    let at = c.args.at in
+    let w = c.window-w in
+    let behind = shifted s at 57 w.result w.ensures (omega arith) 4 (omega arith) in
+    let counted = c.part-n.ensures.1 s at 57 (omega arith) (omega arith) w.ensures ∙ ap (λ (p : ℕ). number_at s p 4) (add-zero at) in
     let e = c.alternative_in.ensures in (
-      field_one a.plate.now a.at c.part-n.result (counted c.before.before.before) c.if-n-eq1.true c.alternative_in.result
-          (e.1 a.plate.now (front a.plate.now (a.at + 4) 53 _ behind (omega arith) alternative_most (omega arith))),
-      up_further c.alternative_in.result (a.at + 4 + alternative_most) (a.at + field_most) (omega arith) e.0,
+      field_one s at c.part-n.result counted c.if-n-eq1.true c.alternative_in.result (e.1 s (front s (at + 4) 53 _ behind (omega arith) alternative_most (omega arith))),
+      up_further c.alternative_in.result (at + 4 + alternative_most) (at + field_most) (omega arith) e.0,
     )
 
 pub returns-then-n-lt1 : goal.returns-then-n-lt1
 returns-then-n-lt1 c =
-    let a = c.args in
-    (field_none a.plate.now a.at c.part-n.result (counted c.before.before.before) c.if-n-lt1.true, omega arith)
-
-pub returns-then-n-gt-MOST_ALTERNATIVES : goal.returns-then-n-gt-MOST_ALTERNATIVES
-returns-then-n-gt-MOST_ALTERNATIVES c =
-    let a = c.args in
-    (field_over a.plate.now a.at c.part-n.result (counted c.before.before.before.before) c.if-n-gt-MOST_ALTERNATIVES.true, omega arith)
-
-pub loop-left-init : goal.loop-left-init
-loop-left-init c = (omega arith, refl)
-
-pub accept_alternative-requires : goal.accept_alternative-requires
-accept_alternative-requires c = let n = c.if-n-gt-MOST_ALTERNATIVES.false in omega arith
-
-pub returns-in_default : goal.returns-in_default
-returns-in_default c =
-    let a = c.args in
-    let l = c.loop-left in (
-      alternatives_stop a.plate.now l.place l.left c.loop-left-test.true c.accept_alternative.result
-          c.accept_alternative.ensures.0 c.in_default.is
-          ∙ l.invariant.1 ∙ field_is a.plate.now a.at c.part-n.result (counted c.before.before.before.before.before.before.before.before) c.if-n-lt1.false c.if-n-gt-MOST_ALTERNATIVES.false,
-      omega arith,
+    let s = c.args.plate.now in
+    let at = c.args.at in
+    let counted = c.part-n.ensures.1 s at 57 (omega arith) (omega arith) c.window-w.ensures ∙ ap (λ (p : ℕ). number_at s p 4) (add-zero at) in (
+      elim c.then-n-lt1.branch [
+        | then-n-lt1-via-then-n-lt1 t ↦ field_none s at c.part-n.result counted t.if-n-lt1.true
+        | then-n-lt1-via-else-n-lt1+then-n-gt-MOST_ALTERNATIVES t ↦ field_over s at c.part-n.result counted t.if-n-gt-MOST_ALTERNATIVES.true
+      ],
+      tt,
     )
 
-pub loop-left-preserved : goal.loop-left-preserved
-loop-left-preserved c =
-    let l = c.loop-left in
-    let w = rw c.in-To.is at c.accept_alternative.ensures.1 in (
-      omega arith,
-      alternatives_turn c.args.plate.now l.place l.left c.loop-left-test.true c.accept_alternative.result
-          c.accept_alternative.ensures.0 c.in-To.next c.in-To.is ∙ l.invariant.1,
+pub loop-preserved : goal.loop-preserved
+loop-preserved c =
+    let s = c.args.plate.now in
+    let l = c.loop in
+    let n = c.part-n.result in
+    let r = c.accept_alternative in
+    let next = c.in_ok-place.place in
+    let within = c.in_ok-place.ensures.1 in (
+      omega (arith, l.invariant.0),
+      ap (λ (m : ℕ). alternatives_step s m next) {x = n - (l.counter + 1)} {y = n - l.counter - 1} (omega arith)
+          ∙ alternatives_turn s l.place (n - l.counter) (omega arith) r.result r.ensures.0 next c.in_ok-place.was ∙ l.invariant.1,
     )
 
 pub returns : goal.returns
 returns c =
-    let a = c.args in
-    let l = c.loop-left in
-    let few = c.if-n-gt-MOST_ALTERNATIVES.false in (
-      sym (alternatives_end a.plate.now l.left l.place c.loop-left-test.false)
-          ∙ l.invariant.1 ∙ field_is a.plate.now a.at c.part-n.result (counted c.before.before.before.before.before.before) c.if-n-lt1.false few,
-      omega arith,
+    let s = c.args.plate.now in
+    let at = c.args.at in
+    let l = c.loop in
+    let n = c.part-n.result in
+    let few = c.if-n-gt-MOST_ALTERNATIVES.false in
+    let counted = c.part-n.ensures.1 s at 57 (omega arith) (omega arith) c.window-w.ensures ∙ ap (λ (p : ℕ). number_at s p 4) (add-zero at) in (
+      sym (alternatives_end s (n - l.counter) l.place (omega arith)) ∙ l.invariant.1 ∙ field_is s at n counted c.if-n-lt1.false few,
+      omega (arith, l.invariant.0),
     )

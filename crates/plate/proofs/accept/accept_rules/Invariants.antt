@@ -16,7 +16,4 @@ pub record Kept (plate : List ℕ) (from n : ℕ) (lent places groups : List ℕ
 
 abbrev pub invariant-loop-i : goal.invariant-loop-i
 invariant-loop-i l =
-    (l.i ≤ l.n) × (l.at ≤ l.from + rule_most * l.i) × Kept l.plate l.from l.n l.initial.places l.places l.groups l.at l.i l.begun l.code l.length
-
-abbrev pub decreases-loop-i : goal.decreases-loop-i
-decreases-loop-i l = l.n - l.i
+    (l.at ≤ l.from + rule_most * l.i) × Kept l.plate l.from l.n l.initial.places l.places l.groups l.at l.i l.begun l.code l.length

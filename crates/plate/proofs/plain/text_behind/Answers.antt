@@ -10,8 +10,8 @@ returns-then-n-eq2 c =
     let none : n - 2 ≤ 0 = omega (arith, c.if-n-eq2.true) in
     λ _ s at held. text_end s (n - 2) (at + 16) none
 
-pub returns : goal.returns
-returns c =
+pub returns-else-n-eq2 : goal.returns-else-n-eq2
+returns-else-n-eq2 c =
     let a = c.args in
     let most : 8 * a.n ≤ 64 = omega (arith, c.requires.1) in
     let fits : 16 + 8 * (a.n - 2) ≤ 8 * a.n = omega (arith, c.requires.0) in

@@ -1,10 +1,7 @@
 -- `plate::plain::three_digits` meets its contract: what a mask finds zero is a shape of three fields (Masks.three_digits). Assumes nothing.
-use Rattle.std.proofs.Common.{◌/◌, arith, eqb-true}
-use Rattle.plate.proofs.Masks.{rest_few, three_digits}
+use Rattle.std.proofs.Common.{arith, eqb-true}
+use Rattle.plate.proofs.Masks.{three_digits}
 use Rattle.plate.proofs.plain.three_digits.Goals as goal
-
-pub overflow_add-result : goal.overflow_add-result
-overflow_add-result c = let few = rest_few (c.args.w / 4294967296) (omega arith) in omega (arith, few)
 
 pub returns : goal.returns
 returns c = λ e. three_digits c.args.w (omega arith) (eqb-true _ 0 e)

@@ -14,12 +14,6 @@ long s at w h = pattern_length_in s at w h ∙ sym (bytes_length s (number_at s 
 pub returns-then-plain-n : goal.returns-then-plain-n
 returns-then-plain-n c = λ s at h. unsaid (pattern_at s at) c.args.word c.args.plain _ (long s at _ h) c.if-plain-n.true
 
-pub overflow_shr-w : goal.overflow_shr-w
-overflow_shr-w c = let m = c.if-plain-n.false in let p = c.requires in omega arith
-
-pub overflow_shr-word : goal.overflow_shr-word
-overflow_shr-word c = let m = c.if-plain-n.false in let p = c.requires in omega arith
-
 pub returns-then-w-off : goal.returns-then-w-off
 returns-then-w-off c =
     let a = c.args in

@@ -1,10 +1,7 @@
 -- `plate::window::part` meets its contract: shift and remainder cut the bits out of whatever they stand in (Windows.part_is). Assumes nothing.
 use Rattle.std.proofs.Common.{mod-lt, arith, pow_pos}
-use Rattle.plate.proofs.Windows.{part_is, shl_one, shl_pos}
+use Rattle.plate.proofs.Windows.{part_is, shl_one}
 use Rattle.plate.proofs.window.part.Goals as goal
-
-pub nonzero_rem-result : goal.nonzero_rem-result
-nonzero_rem-result c = shl_pos c.args.n (omega arith)
 
 pub returns : goal.returns
 returns c =

@@ -2,10 +2,6 @@
 use Rattle.plate.proofs.Windows.{window_holds}
 use Rattle.plate.proofs.window.window.Goals as goal
 
-pub returns-then-at-plate : goal.returns-then-at-plate
-returns-then-at-plate c = c.window_in.ensures
-
 pub returns : goal.returns
 returns c =
-    let a = c.args in
-    rw c.eight_bytes.ensures (window_holds a.plate.now (λ k. (c.shared_slice_known-1.given k).fits) a.at)
+    let a = c.args in rw c.from_be_bytes.ensures (window_holds a.plate.now (λ k. (c.type_inv.plate k).fits) a.at c.bytes_at.result c.bytes_at.ensures)

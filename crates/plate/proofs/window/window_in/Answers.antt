@@ -3,4 +3,5 @@ use Rattle.plate.proofs.Windows.{window_holds}
 use Rattle.plate.proofs.window.window_in.Goals as goal
 
 pub returns : goal.returns
-returns c = rw c.eight_in.ensures (window_holds c.args.plate.now (λ k. (c.shared_slice_known-1.given k).fits) c.args.at)
+returns c =
+    let a = c.args in rw c.from_be_bytes.ensures (window_holds a.plate.now (λ k. (c.type_inv.plate k).fits) a.at c.bytes_in.result c.bytes_in.ensures)

@@ -2,5 +2,5 @@
 use Rattle.std.proofs.Common.{◌<◌}
 use Rattle.trial.proofs.say.sum.Given as goal
 
-abbrev pub invariant-loop-i : goal.invariant-loop-i
-invariant-loop-i l = (l.low < 65521) × (l.high < 65521)
+abbrev pub invariant-loop-byte : goal.invariant-loop-byte
+invariant-loop-byte l = (l.low < 65521) × (l.high < 65521)

@@ -1,50 +1,16 @@
--- `count_names` meets its contract. The loop keeps: the names counted and those from here on are all names, and each had a byte at least (its newline). A turn is
--- Names.names_at, the ways out are Names.name_left and Names.names_end. Assumes nothing.
-use Prim.Native.Nat.{◌+◌, ◌≤◌}
-use mathlib.Core.Path.{◌≡◌, ap, ◌∙◌}
-use native.Mathlib.Omega.{arith}
-use lib.ListN.{length}
+-- `split::count_names` meets its contract: what is taken has the length of that front of the names. There are no more names than bytes (Names.names_few), so the
+-- most that a `usize` can say cuts none off. Assumes nothing.
+use Rattle.std.proofs.Common.{◌≤◌, length, ◌∙◌, arith}
+use Rattle.std.proofs.lemmas.Iterator.{YieldsList-from_take}
+use Rattle.std.proofs.lemmas.Iterator.Consumers.{YieldsList-from_first, count_from_yields_List}
 use Rattle.ward.specs.Ward.{names}
-use Rattle.ward.proofs.Names.{names_at, names_end, name_left, smaller_left, smaller_right}
+use Rattle.ward.proofs.Names.{names_few, counted_to}
 use Rattle.ward.proofs.split.count_names.Goals as goal
-
-pub loop-at-init : goal.loop-at-init
-loop-at-init c = (omega arith, omega arith, omega arith)
-
-pub returns-then-most-n : goal.returns-then-most-n
-returns-then-most-n c =
-    let a = c.args in
-    let bytes = a.bytes.now in
-    let l = c.loop-at in
-    let left = name_left bytes l.at c.loop-at-test.true in
-    let all = l.invariant.2 in
-    let few = l.invariant.0 in
-    let over : l.n + 1 ≡ a.most + 1 = omega arith in
-    let more : a.most + 1 ≤ length (names bytes) = omega arith in
-    over ∙ smaller_left (a.most + 1) (length (names bytes)) more
-
-pub overflow_add-at : goal.overflow_add-at
-overflow_add-at c = let e = c.name_end-at.ensures.1 in omega arith
-
-pub loop-at-smaller : goal.loop-at-smaller
-loop-at-smaller c = let e = c.name_end-at.ensures.0 in omega arith
-
-pub loop-at-preserved : goal.loop-at-preserved
-loop-at-preserved c =
-    let bytes = c.args.bytes.now in
-    let l = c.loop-at in
-    let all = l.invariant.2 in
-    let next = ap length (names_at bytes l.at c.name_end-at.result c.loop-at-test.true c.name_end-at.ensures.0) in
-    let e = c.name_end-at.ensures.0 in
-    (omega arith, omega arith, omega arith)
 
 pub returns : goal.returns
 returns c =
-    let a = c.args in
-    let bytes = a.bytes.now in
-    let l = c.loop-at in
-    let none = ap length (names_end bytes l.at c.loop-at-test.false) in
-    let all = l.invariant.2 in
-    let few = l.invariant.0 in
-    let is : l.n ≡ length (names bytes) = omega arith in
-    is ∙ smaller_right (a.most + 1) (length (names bytes)) (omega arith)
+    let ns = names c.args.bytes.now in
+    let few : length ns ≤ 18446744073709551615 = omega (arith, names_few c.args.bytes.now) in
+    let all = YieldsList-from_first (λ name. name.now) (λ left. left) ns (c.take.ensures.source ∙ c.new.ensures) in
+    count_from_yields_List c.take.result c.count.result c.count.ensures.ran (YieldsList-from_take c.saturating_add.result all c.take.ensures.count)
+    ∙ counted_to c.args.most c.saturating_add.result ns c.saturating_add.ensures few

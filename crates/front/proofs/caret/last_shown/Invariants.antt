@@ -1,6 +1,0 @@
--- Each turn takes a character.
-use Rattle.std.proofs.Common.{length, ◌-◌}
-use Rattle.front.proofs.caret.last_shown.Given as goal
-
-abbrev pub decreases-loop-at : goal.decreases-loop-at
-decreases-loop-at l = length l.name - l.at

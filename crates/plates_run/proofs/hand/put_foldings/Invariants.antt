@@ -1,6 +1,0 @@
--- 42 bits a turn.
-use Rattle.std.proofs.Common.{◌≡◌, ◌+◌, ◌*◌}
-use Rattle.plates_run.proofs.hand.put_foldings.Given as goal
-
-abbrev pub invariant-loop-k : goal.invariant-loop-k
-invariant-loop-k l = l.end ≡ 32 + 42 * l.k

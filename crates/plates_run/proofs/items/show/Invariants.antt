@@ -1,9 +1,0 @@
--- Each turn passes the bytes of an item, or stops where none are taken.
-use Rattle.std.proofs.Common.{length, ◌-◌, ◌≤◌}
-use Rattle.plates_run.proofs.items.show.Given as goal
-
-abbrev pub invariant-loop-at : goal.invariant-loop-at
-invariant-loop-at l = l.at ≤ length l.text
-
-abbrev pub decreases-loop-at : goal.decreases-loop-at
-decreases-loop-at l = length l.text - l.at
