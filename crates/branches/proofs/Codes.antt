@@ -13,9 +13,11 @@ among_codes : (c : List ℕ) (l : List Branch) → list_any (λ b. pointwise eqb
 among_codes c [] = refl
 among_codes c (b ∷ l) = ap₂ ◌||◌ (pointwise_same c (code b)) (among_codes c l)
 
--- What `has_code` tells is whether a branch's code is among theirs.
-pub has_code : (b : Branch) (l : List Branch) (c : List ℕ) → c ≡ code b → (r : Bool) → r ≡ list_any (λ d. pointwise eqb (code d) c) l → among same (code b) (map code l) ≡ r
-has_code b l c e r f = ap (λ (k : List ℕ). among same k (map code l)) (sym e) ∙ sym (among_codes c l) ∙ sym f
+-- What `has_code` tells of the branches it is lent is whether a branch's code is among theirs.
+pub has_code : (b : Branch) (l : List Branch) (c : List ℕ) → c ≡ code b → (lent : List Branch) → lent ≡ l → (r : Bool) → r ≡ list_any (λ d. pointwise eqb (code d) c) lent
+    → among same (code b) (map code l) ≡ r
+has_code b l c e lent s r f =
+    ap (λ (k : List ℕ). among same k (map code l)) (sym e) ∙ ap (λ (bs : List Branch). among same c (map code bs)) (sym s) ∙ sym (among_codes c lent) ∙ sym f
 
 -- At most one code is listed as it is.
 pub once_one : (l : List (List ℕ)) → length l < 2 → l ≡ once same l

@@ -1,7 +1,7 @@
 -- Only one answer satisfies each promise of this crate, for each says by an equation what is held. A branch is held in one way only, to the last byte: what
 -- lies past the count of its digits, and of its last replacement, is fixed, for they can be read back from what they stand for (DigitsOk and held_again in
--- plate's specs/Field.antt, the invariant and the inverse of Digits). The digits of a branch so held are its padded code. Of a list of branches what lies
--- past its count can be seen by nobody. Assumes nothing.
+-- plate's specs/Field.antt, the invariant and the inverse of Digits). The digits of a branch so held are its padded code. Branches are held in one way only
+-- too: those past their count are empty (BranchesOk and branches_again in specs/Held.antt). Assumes nothing.
 use Rattle.std.proofs.Common.{◌≡◌, ℕ, Bool, cond, List, take, leb, length, refl, sym, ap, ◌∙◌}
 use Rattle.std.proofs.lemmas.Bool.{false≢true}
 use Rattle.std.specs.Prelude.{Result, Ok, Err}

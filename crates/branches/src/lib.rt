@@ -1,7 +1,7 @@
 // Branches: a branch, its extension by an alternative, and one step of all branches. 01, "From name to codes".
 #![tactic(auto)]
 
-ghost use Rattle.std.specs.Prelude.{◌≡◌, [], ◌∷◌, ◌++◌, map, ◌≤◌, ◌<◌, length, leb, cond, is_ok, nat_eq};
+ghost use Rattle.std.specs.Prelude.{◌≡◌, [], ◌∷◌, ◌++◌, map, ◌+◌, ◌≤◌, ◌<◌, length, take, leb, cond, is_ok, nat_eq};
 ghost use Rattle.std.specs.List.{list_any};
 ghost use Rattle.std.specs.Cmp.Lexicographic.{pointwise};
 ghost use Rattle.laws.specs.Lists.{same};
@@ -51,7 +51,7 @@ impl Branch {
     // What a branch becomes when it meets an alternative; `anyway` between m and n. (The Rust's process_next_replacement.) "It is appended and cut at six
     // digits, unless the last replacement ends with it; [..] It becomes the last replacement either way."
     #[tactic(auto, unfolding(crate::specs::Branches::extend))]
-    fn extend(&self, alternative: &Digits, anyway: bool) -> Branch
+    pub fn extend(&self, alternative: &Digits, anyway: bool) -> Branch
         ensures { result ≡ defined.extend anyway alternative.now self.now }
     {
         let digits = if anyway || !self.ends_with(alternative) {
@@ -77,27 +77,35 @@ impl Branch {
 #[derive(Clone, Copy, Debug, PartialEq, Eq)]
 pub struct TooMany;
 
-// A constant, since it is copied faster than it is filled.
-const EMPTY_BRANCHES: [Branch; MOST_BRANCHES] = [Branch::EMPTY; MOST_BRANCHES];
-
-// "up to 64 are held side by side"
+// "up to 64 are held side by side"; those past the count are empty, so that branches are held in one way only.
 // Stays: there is no heap, so a room for the most and how much of it is in use, which callers see as a list.
-#[derive(Drop)]
+#[derive(Clone, Copy)]
 pub struct Branches {
-    items: [Branch; MOST_BRANCHES],
-    count: usize,
+    pub items: [Branch; MOST_BRANCHES],
+    pub count: usize,
 }
 
 impl Model for Branches {
-    ghost use Rattle.std.specs.Prelude.{List, ◌≤◌, ◌≡◌, length, take};
+    ghost use Rattle.std.specs.Prelude.{List, length, take};
     ghost use Rattle.branches.specs.Branches.{Branch as Held};
-    ghost use Rattle.branches.specs.Held.{most_branches};
+    ghost use Rattle.branches.specs.Held.{filled, BranchesOk, branches_again};
 
     ghost Value = { List Held };
 
     ghost view = { λ bs. take bs.count bs.items };
 
-    ghost invariant = { λ bs. (bs.count ≤ most_branches) × (length bs.items ≡ most_branches) };
+    ghost invariant = { λ bs. BranchesOk bs.items bs.count };
+
+    ghost inverse = { λ bs. record { items = filled bs; count = length bs } };
+
+    ghost inverse_ok = { λ bs ok. let e = branches_again bs.items bs.count ok in λ i. record { items = e.0 i; count = e.1 i } };
+}
+
+// One of them has this code.
+fn has_code(branches: &[Branch], code: [u8; MOST_DIGITS]) -> bool
+    ensures { result ≡ list_any (λ b. pointwise nat_eq (defined.code b) code) branches.now }
+{
+    branches.iter().any(|b| b.code() == code)
 }
 
 impl Branches {
@@ -106,7 +114,7 @@ impl Branches {
         ensures { result ≡ defined.start }
     {
         Branches {
-            items: EMPTY_BRANCHES,
+            items: [Branch::EMPTY; MOST_BRANCHES],
             count: 1,
         }
     }
@@ -117,13 +125,26 @@ impl Branches {
         &self.items[..self.count]
     }
 
-    // One more behind them.
-    fn push(&mut self, b: Branch)
-        requires { length self.old < most_branches }
-        ensures { self.new ≡ self.old ++ b ∷ [] }
+    // Behind the first n, in the place of another or as one more.
+    fn put(&mut self, n: usize, b: Branch)
+        requires { (n ≤ length self.old) × (n < most_branches) }
+        ensures front { take (n + 1) self.new ≡ take n self.old ++ b ∷ [] }
+        ensures long { n < length self.new }
     {
-        self.items[self.count] = b;
-        self.count += 1;
+        self.items[n] = b;
+        self.count = self.count.max(n + 1);
+    }
+
+    // The first n.
+    fn truncate(&mut self, n: usize)
+        requires { n ≤ length self.old }
+        ensures { self.new ≡ take n self.old }
+    {
+        // Stays: it turns while more are held, which is what the test says.
+        while n < self.count {
+            self.count -= 1;
+            self.items[self.count] = Branch::EMPTY;
+        }
     }
 
     // One step of all branches. "Each branch, in order, meets each alternative, in order. [..] A branch equal in digits and last replacement to an earlier one
@@ -141,33 +162,25 @@ impl Branches {
             self.items[0] = self.items[0].extend(alternative, anyway);
             return Ok(());
         }
-        let current = Branches {
-            items: self.items,
-            count: self.count,
-        };
-        self.count = 0;
-        for b in current.as_slice() {
+        // Copied, which is faster than filled with empty ones.
+        let mut made = *self;
+        let mut n = 0;
+        for b in self.as_slice() {
             for alternative in field.as_slice() {
                 let new = b.extend(alternative, anyway);
-                if self.as_slice().contains(&new) {
+                if made.as_slice()[..n].contains(&new) {
                     continue;
                 }
-                if room <= self.count {
-                    self.items = current.items;
-                    self.count = current.count;
+                if room <= n {
                     return Err(TooMany);
                 }
-                self.push(new);
+                made.put(n, new);
+                n += 1;
             }
         }
+        made.truncate(n);
+        *self = made;
         Ok(())
-    }
-
-    // One of them has this code.
-    fn has_code(&self, code: [u8; MOST_DIGITS]) -> bool
-        ensures { result ≡ list_any (λ b. pointwise nat_eq (defined.code b) code) self.now }
-    {
-        self.as_slice().iter().any(|b| b.code() == code)
     }
 
     // "Drop a code equal to an earlier one when writing; the first place stays." The first branch of each code, once the last step is made.
@@ -177,16 +190,16 @@ impl Branches {
         if self.count < 2 {
             return self;
         }
-        let mut kept = Branches {
-            items: self.items,
-            count: 0,
-        };
+        let mut kept = self;
+        let mut n = 0;
         for b in self.as_slice() {
-            if kept.has_code(b.code()) {
+            if has_code(&kept.as_slice()[..n], b.code()) {
                 continue;
             }
-            kept.push(*b);
+            kept.put(n, *b);
+            n += 1;
         }
+        kept.truncate(n);
         kept
     }
 }

@@ -70,7 +70,7 @@ impl Digits {
 
 // The alternatives of a field, up to eight; those past the count are empty, so that a field is held in one way only.
 // Stays: there is no heap, so a room for the most and how much of it is in use, which callers see as a list.
-#[derive(Drop)]
+#[derive(Clone, Copy)]
 pub struct Field {
     pub alternatives: [Digits; MOST_ALTERNATIVES],
     pub count: usize,

@@ -40,10 +40,10 @@ pub const NOTED: usize = LATIN;
 
 // A rule that is accepted: its first code point, its pattern's length in bytes, and the place behind it.
 #[derive(Clone, Copy)]
-pub(crate) struct Seen {
-    code: u32,
-    length: usize,
-    next: usize,
+pub struct Seen {
+    pub code: u32,
+    pub length: usize,
+    pub next: usize,
 }
 
 // The rules of a character's group by their numbers: the first, and the one behind the last.

@@ -1,7 +1,7 @@
 -- `branches::Branches::step` meets its contract. The loops over the branches and the alternatives keep: what the step still makes from here on, merged behind
--- what it has made, is what it makes from the start. A turn is Steps.dropped or Steps.kept, the way out over room Steps.too_many, where the
--- branches are those of the call again; one branch that meets one alternative is Steps.extended. Assumes nothing.
-use Rattle.std.proofs.Common.{ℕ, zero-le, ◌≡◌, ◌+◌, ◌<◌, List, [], ◌∷◌, length, take, drop, set, leb, sym, ap, ◌∙◌, arith, le-leb, length-append}
+-- what it has made, is what it makes from the start. A turn is Steps.dropped or Steps.kept, the way out over room Steps.too_many, where nothing is
+-- changed; one branch that meets one alternative is Steps.extended. Assumes nothing.
+use Rattle.std.proofs.Common.{ℕ, zero-le, ◌≡◌, ◌+◌, ◌<◌, List, [], ◌∷◌, length, take, drop, set, leb, refl, sym, ap, ◌∙◌, arith, le-leb}
 use lib.Seq.{length-take-le}
 use Rattle.branches.specs.Branches.{Branch, extend, step}
 use Rattle.branches.specs.Held.{use_of}
@@ -15,7 +15,7 @@ returns c =
     let u = use_of a.field.now a.anyway in
     let s = c.self.inside in
     let alone = c.if-self-eq1.true in
-    let long = c.self.invariant.1 in
+    let long = c.self.invariant.long in
     let some : 0 < length s.items = omega arith in
     let item = c.index-self-0 in
     let alternative = c.alternative-item in
@@ -31,57 +31,58 @@ returns c =
 
 pub loop-b-init : goal.loop-b-init
 loop-b-init c =
-    (zero-le, begins (use_of c.args.field.now c.args.anyway) c.args.self.now c.as_slice-b-items.result.now (c.as_slice-b-items.ensures ∙ c.self.view_is))
+    (zero-le, zero-le, begins (use_of c.args.field.now c.args.anyway) c.args.self.now c.as_slice-b-items.result.now c.as_slice-b-items.ensures)
 
 pub loop-alternative-init : goal.loop-alternative-init
 loop-alternative-init c =
     let l = c.loop-b in (
       l.invariant.0,
-      opens (use_of c.args.field.now c.args.anyway) l.self (step (use_of c.args.field.now c.args.anyway) c.args.self.now) c.as_slice-b-items.result.now l.b-index
-          c.b-item.result c.b-item.is c.loop-b-test.true l.invariant.1 c.as_slice-alternative-items.result.now c.as_slice-alternative-items.ensures,
+      l.invariant.1,
+      opens (use_of c.args.field.now c.args.anyway) (take l.n l.made) (step (use_of c.args.field.now c.args.anyway) c.args.self.now) c.as_slice-b-items.result.now l.b-index
+          c.b-item.result c.b-item.is c.loop-b-test.true l.invariant.2 c.as_slice-alternative-items.result.now c.as_slice-alternative-items.ensures,
     )
 
 pub loop-alternative-preserved-then-contains : goal.loop-alternative-preserved-then-contains
 loop-alternative-preserved-then-contains c =
     let l = c.loop-alternative in
-    let among = among_told c.extend-new.result l.self c.as_slice-in-loop-alternative.result.now c.contains.result c.as_slice-in-loop-alternative.ensures
-    c.contains.ensures.value in (
+    let so = take l.n l.made in
+    let among = among_told c.extend-new.result so _ c.contains.result (ap (take l.n) c.as_slice-in-loop-alternative.ensures) c.contains.ensures.value in (
       l.invariant.0,
-      dropped (use_of c.args.field.now c.args.anyway) l.self (step (use_of c.args.field.now c.args.anyway) c.args.self.now) c.b-item.result
-          c.as_slice-alternative-items.result.now l.alternative-index (drop (c.loop-b.b-index + 1) c.as_slice-b-items.result.now) l.invariant.1 c.alternative-item-in-loop-alternative.result
+      l.invariant.1,
+      dropped (use_of c.args.field.now c.args.anyway) so (step (use_of c.args.field.now c.args.anyway) c.args.self.now) c.b-item.result
+          c.as_slice-alternative-items.result.now l.alternative-index (drop (c.loop-b.b-index + 1) c.as_slice-b-items.result.now) l.invariant.2 c.alternative-item-in-loop-alternative.result
           c.alternative-item-in-loop-alternative.is c.loop-alternative-test.true c.extend-new.result c.extend-new.ensures (among ∙ c.if-contains.true),
     )
 
-pub returns-then-room-self : goal.returns-then-room-self
-returns-then-room-self c =
+pub returns-then-room-n : goal.returns-then-room-n
+returns-then-room-n c =
     let l = c.loop-alternative in
-    let among = among_told c.extend-new.result l.self c.as_slice-in-loop-alternative.result.now c.contains.result c.as_slice-in-loop-alternative.ensures
-    c.contains.ensures.value in
-    let s = c.self-in-loop-alternative in
-    let n = ap length (sym s.view_is) ∙ length-take-le s.inside.count s.inside.items (omega (arith, s.invariant.0, s.invariant.1)) in (
-      too_many (use_of c.args.field.now c.args.anyway) l.self (step (use_of c.args.field.now c.args.anyway) c.args.self.now) c.b-item.result
-          c.as_slice-alternative-items.result.now l.alternative-index (drop (c.loop-b.b-index + 1) c.as_slice-b-items.result.now) l.invariant.1 c.alternative-item-in-loop-alternative.result
-          c.alternative-item-in-loop-alternative.is c.loop-alternative-test.true c.extend-new.result c.extend-new.ensures c.args.room (among ∙ c.if-contains.false) (omega (arith, n, c.if-room-self.true)),
-      c.self.view_is,
+    let so = take l.n l.made in
+    let among = among_told c.extend-new.result so _ c.contains.result (ap (take l.n) c.as_slice-in-loop-alternative.ensures) c.contains.ensures.value in (
+      too_many (use_of c.args.field.now c.args.anyway) so (step (use_of c.args.field.now c.args.anyway) c.args.self.now) c.b-item.result
+          c.as_slice-alternative-items.result.now l.alternative-index (drop (c.loop-b.b-index + 1) c.as_slice-b-items.result.now) l.invariant.2 c.alternative-item-in-loop-alternative.result
+          c.alternative-item-in-loop-alternative.is c.loop-alternative-test.true c.extend-new.result c.extend-new.ensures c.args.room (among ∙ c.if-contains.false)
+          (omega (arith, length-take-le l.n l.made l.invariant.0, c.if-room-n.true)),
+      refl,
     )
 
 pub loop-alternative-preserved : goal.loop-alternative-preserved
 loop-alternative-preserved c =
     let l = c.loop-alternative in
-    let among = among_told c.extend-new.result l.self c.as_slice-in-loop-alternative.result.now c.contains.result c.as_slice-in-loop-alternative.ensures
-    c.contains.ensures.value in
-    let s = c.self-in-loop-alternative in
-    let n = ap length (sym s.view_is) ∙ length-take-le s.inside.count s.inside.items (omega (arith, s.invariant.0, s.invariant.1)) in
-    let more = ap length c.push.ensures ∙ length-append l.self (c.extend-new.result ∷ []) in (
-      omega (arith, n, more, c.if-room-self.false),
-      kept (use_of c.args.field.now c.args.anyway) l.self (step (use_of c.args.field.now c.args.anyway) c.args.self.now) c.b-item.result
-          c.as_slice-alternative-items.result.now l.alternative-index (drop (c.loop-b.b-index + 1) c.as_slice-b-items.result.now) l.invariant.1 c.alternative-item-in-loop-alternative.result
-          c.alternative-item-in-loop-alternative.is c.loop-alternative-test.true c.extend-new.result c.extend-new.ensures (among ∙ c.if-contains.false) c.push.new.self c.push.ensures,
+    let so = take l.n l.made in
+    let among = among_told c.extend-new.result so _ c.contains.result (ap (take l.n) c.as_slice-in-loop-alternative.ensures) c.contains.ensures.value in (
+      omega (arith, c.put.ensures.long),
+      omega (arith, c.if-room-n.false),
+      kept (use_of c.args.field.now c.args.anyway) so (step (use_of c.args.field.now c.args.anyway) c.args.self.now) c.b-item.result
+          c.as_slice-alternative-items.result.now l.alternative-index (drop (c.loop-b.b-index + 1) c.as_slice-b-items.result.now) l.invariant.2 c.alternative-item-in-loop-alternative.result
+          c.alternative-item-in-loop-alternative.is c.loop-alternative-test.true c.extend-new.result c.extend-new.ensures (among ∙ c.if-contains.false)
+          (take (l.n + 1) c.put.new.self) c.put.ensures.front,
     )
 
 pub returns-2 : goal.returns-2
 returns-2 c =
     let l = c.loop-b in
-    let is = done (use_of c.args.field.now c.args.anyway) l.self (step (use_of c.args.field.now c.args.anyway) c.args.self.now) c.as_slice-b-items.result.now l.b-index
-    c.loop-b-test.false l.invariant.1 in
-    (sym (ap (λ (bs : List Branch). leb (length bs) c.args.room) (sym is) ∙ le-leb (length l.self) c.args.room l.invariant.0), is)
+    let so = take l.n l.made in
+    let is = done (use_of c.args.field.now c.args.anyway) so (step (use_of c.args.field.now c.args.anyway) c.args.self.now) c.as_slice-b-items.result.now l.b-index
+    c.loop-b-test.false l.invariant.2 in
+    (sym (ap (λ (bs : List Branch). leb (length bs) c.args.room) (sym is) ∙ le-leb (length so) c.args.room (omega (arith, length-take-le l.n l.made l.invariant.0, l.invariant.1))), c.self-2.view_is ∙ c.truncate.ensures ∙ is)
