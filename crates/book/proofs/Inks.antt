@@ -16,7 +16,7 @@ use Rattle.plate.specs.Bits.{bits_of, unpack, pack}
 use Rattle.plate.proofs.Packed.{Bytes, length_bits_of, zero_bits, pack_unpack, pack_fill}
 use Rattle.plate.proofs.Place.{length_unpack}
 use Rattle.book.specs.Pen.{bits_in, Ready, Wrote, Finished}
-use Rattle.book.specs.declared.pen.Pen.{Pen}
+use Rattle.book.specs.declared.pen.Sheet.{Sheet}
 
 -- ---- numbers
 
@@ -111,34 +111,34 @@ both_bits h n a v i j front bits e =
 
 -- ---- bits written one behind the other
 
-pub wrote_then : {p p₁ p₂ : Pen} (a b : List ℕ) → Wrote p a p₁ → Wrote p₁ b p₂ → Wrote p (a ++ b) p₂
-wrote_then {p = p} {p₁ = p₁} {p₂ = p₂} a b x y =
-    let n : ℕ = p₂.bytes - p₁.bytes in
-    let on : p₁.bytes + n ≡ p₂.bytes = omega (arith, p₁.part, p₂.part, x.moved, y.moved) in
+pub wrote_then : {s s₁ s₂ : Sheet} (a b : List ℕ) → Wrote s a s₁ → Wrote s₁ b s₂ → Wrote s (a ++ b) s₂
+wrote_then {s = s} {s₁ = s₁} {s₂ = s₂} a b x y =
+    let n : ℕ = s₂.pen.bytes - s₁.pen.bytes in
+    let on : s₁.pen.bytes + n ≡ s₂.pen.bytes = omega (arith, s₁.pen.part, s₂.pen.part, x.moved, y.moved) in
     record {
-      is = y.is ∙ ap (λ (l : List ℕ). l ++ b) x.is ∙ append_assoc (bits_in p) a b;
+      is = y.is ∙ ap (λ (l : List ℕ). l ++ b) x.is ∙ append_assoc (bits_in s) a b;
       kept =
-          y.kept ∙ ap (λ (m : ℕ). drop m p₁.out.now) (sym on) ∙ sym (drop-drop n p₁.bytes p₁.out.now) ∙ ap (drop n) x.kept ∙ drop-drop n p₁.bytes p.out.now
-          ∙ ap (λ (m : ℕ). drop m p.out.now) on;
+          y.kept ∙ ap (λ (m : ℕ). drop m s₁.out.now) (sym on) ∙ sym (drop-drop n s₁.pen.bytes s₁.out.now) ∙ ap (drop n) x.kept ∙ drop-drop n s₁.pen.bytes s.out.now
+          ∙ ap (λ (m : ℕ). drop m s.out.now) on;
       size = y.size ∙ x.size;
       moved = omega (arith, x.moved, y.moved, length-append a b);
       same = y.same ∙ x.same;
     }
 
 -- Room for all is room for the first.
-pub ready_first : {p : Pen} (a b : List ℕ) → Ready p (a ++ b) → Ready p a
+pub ready_first : {s : Sheet} (a b : List ℕ) → Ready s (a ++ b) → Ready s a
 ready_first a b r = record { room = omega (arith, r.room, length-append a b) }
 
 -- Behind the first there is room for the others.
-pub ready_then : {p p₁ : Pen} (a b : List ℕ) → Ready p (a ++ b) → Wrote p a p₁ → Ready p₁ b
+pub ready_then : {s s₁ : Sheet} (a b : List ℕ) → Ready s (a ++ b) → Wrote s a s₁ → Ready s₁ b
 ready_then a b r x = record { room = omega (arith, r.room, x.moved, x.size, length-append a b) }
 
 -- The same bits, said otherwise.
-pub ready_as : {p : Pen} {a b : List ℕ} → a ≡ b → Ready p a → Ready p b
-ready_as {p = p} e r = subst (Ready p) e r
+pub ready_as : {s : Sheet} {a b : List ℕ} → a ≡ b → Ready s a → Ready s b
+ready_as {s = s} e r = subst (Ready s) e r
 
-pub wrote_as : {p p₁ : Pen} {a b : List ℕ} → a ≡ b → Wrote p a p₁ → Wrote p b p₁
-wrote_as {p = p} {p₁ = p₁} e w = subst (λ (bits : List ℕ). Wrote p bits p₁) e w
+pub wrote_as : {s s₁ : Sheet} {a b : List ℕ} → a ≡ b → Wrote s a s₁ → Wrote s b s₁
+wrote_as {s = s} {s₁ = s₁} e w = subst (λ (bits : List ℕ). Wrote s bits s₁) e w
 
 -- ---- a loop that writes the bits of each of a list
 
@@ -151,18 +151,18 @@ module _ {A : Type 0} (f : A → List ℕ) (l : List A) (k : ℕ) (d : A) (h : k
   parted : cat f l ≡ cat f (take k l) ++ (f (get_or l k d) ++ cat f (drop (suc k) l))
   parted = ap (cat f) (sym (take-append-drop k l)) ∙ cat_append f (take k l) (drop k l) ∙ ap (λ (more : List A). cat f (take k l) ++ cat f more) (drop-cons l k d h)
 
-  module _ {p p₁ : Pen} (w : Wrote p (cat f (take k l)) p₁) where
+  module _ {s s₁ : Sheet} (w : Wrote s (cat f (take k l)) s₁) where
     -- There is room for the next.
-    pub each_ready : Ready p (cat f l) → Ready p₁ (f (get_or l k d))
+    pub each_ready : Ready s (cat f l) → Ready s₁ (f (get_or l k d))
     each_ready r =
         ready_first (f (get_or l k d)) (cat f (drop (suc k) l)) (ready_then (cat f (take k l)) (f (get_or l k d) ++ cat f (drop (suc k) l)) (ready_as parted r) w)
 
     -- The next is written behind those before it.
-    pub each_turn : {p₂ : Pen} → Wrote p₁ (f (get_or l k d)) p₂ → Wrote p (cat f (take (k + 1) l)) p₂
+    pub each_turn : {s₂ : Sheet} → Wrote s₁ (f (get_or l k d)) s₂ → Wrote s (cat f (take (k + 1) l)) s₂
     each_turn x = wrote_as (sym one_more) (wrote_then (cat f (take k l)) (f (get_or l k d)) w x)
 
 -- All are written.
-pub each_end : {A : Type 0} (f : A → List ℕ) (l : List A) (k : ℕ) → length l ≤ k → {p p₁ : Pen} → Wrote p (cat f (take k l)) p₁ → Wrote p (cat f l) p₁
+pub each_end : {A : Type 0} (f : A → List ℕ) (l : List A) (k : ℕ) → length l ≤ k → {s s₁ : Sheet} → Wrote s (cat f (take k l)) s₁ → Wrote s (cat f l) s₁
 each_end f l k h w = wrote_as (ap (cat f) (take_all k l h)) w
 
 -- ---- the end
@@ -173,43 +173,48 @@ bytes_take [] h (suc n) = tt
 bytes_take (b ∷ bs) h (suc n) = (h 0, bytes_take bs (λ k. h (suc k)) n)
 
 -- There is room to fill the last byte.
-pub fill_ready : {p : Pen} (n : ℕ) → n ≡ 7 - (p.count + 7) % 8 → Ready p [] → Ready p (bits_of n 0)
-fill_ready {p = p} n e r = record { room = omega (arith, e, p.part, r.room, length_bits_of n 0) }
+pub fill_ready : {s : Sheet} (n : ℕ) → n ≡ 7 - (s.pen.count + 7) % 8 → Ready s [] → Ready s (bits_of n 0)
+fill_ready {s = s} n e r = record { room = omega (arith, e, s.pen.part, r.room, length_bits_of n 0) }
 
-module _ {p p₁ : Pen} (n : ℕ) (e : n ≡ 7 - (p.count + 7) % 8) (r : Ready p []) (w : Wrote p (bits_of n 0) p₁) where
-  empty : p₁.count ≡ 0
-  empty = omega (arith, e, p.part, p₁.part, w.moved, length_bits_of n 0)
+module _ {s s₁ : Sheet} (n : ℕ) (e : n ≡ 7 - (s.pen.count + 7) % 8) (r : Ready s []) (w : Wrote s (bits_of n 0) s₁) where
+  empty : s₁.pen.count ≡ 0
+  empty = omega (arith, e, s.pen.part, s₁.pen.part, w.moved, length_bits_of n 0)
 
-  whole : (length (bits_in p) + n) % 8 ≡ 0
+  whole : (length (bits_in s) + n) % 8 ≡ 0
   whole =
       omega (
         arith,
         e,
-        p.part,
-        length-append (unpack (take p.bytes p.out.now)) (bits_of p.count p.begun),
-        length_unpack (take p.bytes p.out.now),
+        s.pen.part,
+        length-append (unpack (take s.pen.bytes s.out.now)) (bits_of s.pen.count s.pen.begun),
+        length_unpack (take s.pen.bytes s.out.now),
         length-take-le
-            p.bytes p.out.now (omega (arith, r.room)),
-        length_bits_of p.count p.begun,
+            s.pen.bytes s.out.now (omega (arith, r.room)),
+        length_bits_of s.pen.count s.pen.begun,
       )
 
-  packed : take p₁.bytes p₁.out.now ≡ pack (bits_in p)
+  packed : take s₁.pen.bytes s₁.out.now ≡ pack (bits_in s)
   packed =
-      sym (pack_unpack (take p₁.bytes p₁.out.now) (bytes_take p₁.out.now p₁.stored p₁.bytes))
+      sym (pack_unpack (take s₁.pen.bytes s₁.out.now) (bytes_take s₁.out.now s₁.stored s₁.pen.bytes))
       ∙ ap pack
-      (sym (append-nil (unpack (take p₁.bytes p₁.out.now))) ∙ ap (λ (m : ℕ). unpack (take p₁.bytes p₁.out.now) ++ bits_of m p₁.begun) (sym empty) ∙ w.is
-      ∙ ap (λ (l : List ℕ). bits_in p ++ l) (sym (zero_bits n)))
-      ∙ pack_fill (bits_in p) n (omega (arith, e)) whole
+      (sym (append-nil (unpack (take s₁.pen.bytes s₁.out.now))) ∙ ap (λ (m : ℕ). unpack (take s₁.pen.bytes s₁.out.now) ++ bits_of m s₁.pen.begun) (sym empty) ∙ w.is
+      ∙ ap (λ (l : List ℕ). bits_in s ++ l) (sym (zero_bits n)))
+      ∙ pack_fill (bits_in s) n (omega (arith, e)) whole
 
-  -- The bytes are the bits, packed, and what stood behind them.
-  pub finished : Finished p p₁ p₁.bytes
+  -- No bit is held then.
+  blank : s₁.pen.begun ≡ 0
+  blank = let h : s₁.pen.begun < 1 = subst (λ (m : ℕ). s₁.pen.begun < 2 ^ m) empty s₁.pen.held in omega arith
+
+  -- The bytes are the bits, packed, and what stood behind them; the pen stands between the two.
+  pub finished : Finished s s₁ s₁.pen.bytes
   finished = (
     (
-      sym (take-append-drop p₁.bytes p₁.out.now) ∙ ap₂ ◌++◌ packed w.kept,
-      sym (length-take-le p₁.bytes p₁.out.now (omega (arith, w.size, w.moved, r.room, e, length_bits_of n 0, p.part, empty))) ∙ ap length packed,
+      sym (take-append-drop s₁.pen.bytes s₁.out.now) ∙ ap₂ ◌++◌ packed w.kept,
+      sym (length-take-le s₁.pen.bytes s₁.out.now (omega (arith, w.size, w.moved, r.room, e, length_bits_of n 0, s.pen.part, empty))) ∙ ap length packed,
     ),
-    omega (arith, w.moved, p₁.part, p.part, length_bits_of n 0, empty),
+    omega (arith, w.moved, s₁.pen.part, s.pen.part, length_bits_of n 0, empty),
     w.same,
+    (refl, blank, empty),
   )
 
 -- So many bytes are so many bits.

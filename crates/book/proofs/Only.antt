@@ -1,18 +1,20 @@
 -- Only one answer, and one array or buffer, satisfies each promise of this crate that says an answer. What a pen has written is not told by its own promise
--- alone (bits not yet a byte are in the pen); that of `finish` tells every byte. Assumes nothing.
-use Prim.Native.Nat.{ℕ, ◌<◌}
-use mathlib.Core.Path.{◌≡◌, refl, sym, ap, ap₂, ◌∙◌}
+-- alone (bits not yet a byte are in the pen); that of `finish` tells every byte, and where the pen stands. Assumes nothing.
+use Prim.Native.Nat.{ℕ, ◌^◌, ◌<◌}
+use mathlib.Core.Path.{◌≡◌, refl, sym, ap, ◌∙◌}
+use mathlib.Core.HLevel.{is_prop→PathP}
 use mathlib.Core.Bool.{Bool, cond}
-use mathlib.Core.List.{List, [], ◌++◌}
+use mathlib.Core.List.{List, ◌++◌}
+use native.Mathlib.Bridge.{le_prop}
 use native.Mathlib.Omega.{arith}
 use lib.Dec.{eqb}
 use lib.ListN.{take, drop}
 use Rattle.laws.specs.Lists.{split_at}
 use Rattle.laws.proofs.Only.{only}
-use Rattle.plate.specs.Bits.{bits_of, unpack, pack}
+use Rattle.plate.specs.Bits.{pack}
 use Rattle.plate.specs.Plate.{Rule}
 use Rattle.book.specs.Field.{parsed, Says}
-use Rattle.book.specs.Pen.{Begins, bits_in, Finished}
+use Rattle.book.specs.Pen.{Stands, Begins, bits_in, Finished}
 use Rattle.book.specs.Seen.{hashes, hash_of, may_hold}
 use Rattle.laws.specs.Sort.{sorted}
 use Rattle.std.specs.Prelude.{Result, Ok, Err}
@@ -21,38 +23,53 @@ use Rattle.book.specs.Note.{RuleNoted, DoubleNoted, FoldingNoted, none_noted}
 use Rattle.book.specs.declared.Flaw.{Flaw}
 use Rattle.book.specs.declared.Flaw.TheVariants.{EmptyPattern, LongPattern, ManyAlternatives, NotDigits, TooMany}
 use Rattle.book.specs.declared.Tally.{Tally}
+use Rattle.book.specs.declared.note.Notes.{Notes}
 use Rattle.book.specs.declared.pen.Pen.{Pen}
+use Rattle.book.specs.declared.pen.Sheet.{Sheet}
 use Rattle.book.proofs.Ways.{numbered}
 
 pub parse_branch : (sep : ℕ) (l : List ℕ) (r r' : Result ℕ Flaw) → (r ≡ parsed (split_at sep l)) × Says (split_at sep l) r
     → (r' ≡ parsed (split_at sep l)) × Says (split_at sep l) r' → r ≡ r'
 parse_branch sep l r r' e f = only e.0 f.0
 
--- The buffer that a pen writes into, and two pens that have written the same into the same.
-abbrev buffer : Pen → List ℕ
-buffer pen = pen.out.now
+-- One pen stands behind so many whole bytes.
+one_pen : (n n' : ℕ) → n ≡ n' → (p p' : Pen) → Stands p n → Stands p' n' → p ≡ p'
+one_pen n n' e p p' s s' =
+    let bytes : p.bytes ≡ p'.bytes = s.0 ∙ e ∙ sym s'.0 in
+    let begun : p.begun ≡ p'.begun = only s.1 s'.1 in
+    let count : p.count ≡ p'.count = only s.2 s'.2 in
+    λ i. record {
+      bytes = bytes i;
+      begun = begun i;
+      count = count i;
+      part = is_prop→PathP (λ j. count j < 8) (λ j x y. le_prop x y) p.part p'.part i;
+      held = is_prop→PathP (λ j. begun j < 2 ^ count j) (λ j x y. le_prop x y) p.held p'.held i;
+    }
 
-abbrev Alike : Pen → Pen → Type 0
-Alike pen pen' = (buffer pen ≡ buffer pen') × (bits_in pen ≡ bits_in pen')
+-- Two sheets hold the same bytes, and their pens are one.
+abbrev Alike : Sheet → Sheet → Type 0
+Alike s s' = (s.out.now ≡ s'.out.now) × (s.pen ≡ s'.pen)
 
--- A pen that begins has written nothing, and its buffer is as lent.
-pub new : (out : List ℕ) (r r' : Pen) → Begins out r → Begins out r' → Alike r r'
-new out r r' e f =
-    let none : (p : Pen) → Begins out p → bits_in p ≡ [] =
-    λ (p : Pen) (b : Begins out p). ap₂ (λ (n m : ℕ). unpack (take n p.out.now) ++ bits_of m p.begun) b.bytes b.count
-    in (only e.lent f.lent, none r e ∙ sym (none r' f))
+-- A sheet that begins is the buffer as lent, and its pen has written nothing.
+pub new : (out : List ℕ) (r r' : Sheet) → Begins out r → Begins out r' → Alike r r'
+new out r r' e f = (only e.lent f.lent, one_pen 0 0 refl r.pen r'.pen (e.bytes, e.begun, e.count) (f.bytes, f.begun, f.count))
 
-pub finish : (pen pen' pen'' : Pen) (r r' : ℕ) → Finished pen pen' r → Finished pen pen'' r' → (r ≡ r') × (buffer pen' ≡ buffer pen'')
-finish pen pen' pen'' r r' e f =
-    let same = only e.0.1 f.0.1 in (same, e.0.0 ∙ ap (λ (n : ℕ). pack (bits_in pen) ++ drop n pen.out.now) same ∙ sym f.0.0)
+pub finish : (s s' s'' : Sheet) (r r' : ℕ) → Finished s s' r → Finished s s'' r' → (r ≡ r') × Alike s' s''
+finish s s' s'' r r' e f =
+    let same = only e.0.1 f.0.1 in
+    (same, (e.0.0 ∙ ap (λ (n : ℕ). pack (bits_in s) ++ drop n s.out.now) same ∙ sym f.0.0, one_pen r r' same s'.pen s''.pen e.3 f.3))
 
 -- ---- a rule or folding noted
 
 pub number : (w : Flaw) (r r' : ℕ) → r ≡ flaw_number w → r' ≡ flaw_number w → r ≡ r'
 number w r r' e f = only e f
 
-pub begun : (t t' : Tally) → t ≡ none_noted → t' ≡ none_noted → t ≡ t'
-begun t t' e f = only e f
+-- Notes that begin are the arrays as lent, and nothing is noted.
+pub begun : (keys seen foldings : List ℕ) (n n' : Notes)
+    → (n.tally ≡ none_noted) × (n.keys.now ≡ keys) × (n.seen.now ≡ seen) × (n.foldings.now ≡ foldings)
+    → (n'.tally ≡ none_noted) × (n'.keys.now ≡ keys) × (n'.seen.now ≡ seen) × (n'.foldings.now ≡ foldings)
+    → (n.tally ≡ n'.tally) × (n.keys.now ≡ n'.keys.now) × (n.seen.now ≡ n'.seen.now) × (n.foldings.now ≡ n'.foldings.now)
+begun keys seen foldings n n' e f = (only e.0 f.0, only e.1 f.1, only e.2 f.2, only e.3 f.3)
 
 abbrev flaw_of : ℕ → Flaw
 flaw_of n = cond (eqb n 4) EmptyPattern (cond (eqb n 5) LongPattern (cond (eqb n 6) ManyAlternatives (cond (eqb n 7) NotDigits TooMany)))

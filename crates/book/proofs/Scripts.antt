@@ -17,7 +17,7 @@ use Rattle.book.specs.Pen.{Begins, bits_in, Ready, Wrote, Stored, Finished}
 use Rattle.book.specs.Sort.{folding_in}
 use Rattle.book.specs.Note.{place_in, rules_in, book_of, Kept, InOrder}
 use Rattle.book.specs.Writing.{bytes_of}
-use Rattle.book.specs.declared.pen.Pen.{Pen}
+use Rattle.book.specs.declared.pen.Sheet.{Sheet}
 use Rattle.book.specs.declared.Tally.{Tally}
 use Rattle.book.proofs.Inks.{wrote_then, ready_first, ready_then, ready_as, pack_length}
 use Rattle.book.proofs.Measures.{cat_length, folding_length}
@@ -28,7 +28,7 @@ cat_map g f (x ∷ xs) = ap (λ (more : List ℕ). g (f x) ++ more) (cat_map g f
 
 -- ---- a rule: its pattern's length, the bytes, three fields
 
-module _ (q : Rule) {pen : Pen} (r : Ready pen (rule_bits q)) where
+module _ (q : Rule) {sheet : Sheet} (r : Ready sheet (rule_bits q)) where
   abbrev N : List ℕ
   N = bits_of 5 (length q.pattern)
 
@@ -44,28 +44,28 @@ module _ (q : Rule) {pen : Pen} (r : Ready pen (rule_bits q)) where
   abbrev O : List ℕ
   O = field_bits q.other
 
-  pub ready_pattern : Ready pen (with_count 5 (bits_of 8) q.pattern)
+  pub ready_pattern : Ready sheet (with_count 5 (bits_of 8) q.pattern)
   ready_pattern = ready_first (N ++ B) (S ++ (W ++ O)) r
 
-  module _ {pen₁ : Pen} (w₁ : Wrote pen (with_count 5 (bits_of 8) q.pattern) pen₁) where
-    behind_pattern : Ready pen₁ (S ++ (W ++ O))
+  module _ {sheet₁ : Sheet} (w₁ : Wrote sheet (with_count 5 (bits_of 8) q.pattern) sheet₁) where
+    behind_pattern : Ready sheet₁ (S ++ (W ++ O))
     behind_pattern = ready_then (N ++ B) (S ++ (W ++ O)) r w₁
 
-    pub ready_start : Ready pen₁ (field_bits q.start)
+    pub ready_start : Ready sheet₁ (field_bits q.start)
     ready_start = ready_first S (W ++ O) behind_pattern
 
-    module _ {pen₂ : Pen} (w₂ : Wrote pen₁ (field_bits q.start) pen₂) where
-      behind_start : Ready pen₂ (W ++ O)
+    module _ {sheet₂ : Sheet} (w₂ : Wrote sheet₁ (field_bits q.start) sheet₂) where
+      behind_start : Ready sheet₂ (W ++ O)
       behind_start = ready_then S (W ++ O) behind_pattern w₂
 
-      pub ready_vowel : Ready pen₂ (field_bits q.vowel)
+      pub ready_vowel : Ready sheet₂ (field_bits q.vowel)
       ready_vowel = ready_first W O behind_start
 
-      module _ {pen₃ : Pen} (w₃ : Wrote pen₂ (field_bits q.vowel) pen₃) where
-        pub ready_other : Ready pen₃ (field_bits q.other)
+      module _ {sheet₃ : Sheet} (w₃ : Wrote sheet₂ (field_bits q.vowel) sheet₃) where
+        pub ready_other : Ready sheet₃ (field_bits q.other)
         ready_other = ready_then W O behind_start w₃
 
-        pub wrote_rule : {pen₄ : Pen} → Wrote pen₃ (field_bits q.other) pen₄ → Wrote pen (rule_bits q) pen₄
+        pub wrote_rule : {sheet₄ : Sheet} → Wrote sheet₃ (field_bits q.other) sheet₄ → Wrote sheet (rule_bits q) sheet₄
         wrote_rule w₄ = wrote_then (N ++ B) (S ++ (W ++ O)) w₁ (wrote_then S (W ++ O) w₂ (wrote_then W O w₃ w₄))
 
 -- ---- the head
@@ -95,8 +95,8 @@ module _ (number width rules foldings : ℕ) (flag : Bool) where
   abbrev H5 : List ℕ
   H5 = bits_of (15 - width) 0
 
-  pub wrote_head : {pen pen₁ pen₂ pen₃ pen₄ pen₅ : Pen} → Wrote pen (bits_of 8 number) pen₁ → Wrote pen₁ (bits_of width rules) pen₂ → Wrote pen₂ (bits_of 8 foldings) pen₃
-      → Wrote pen₃ (bits_of 1 (flag_bit flag)) pen₄ → Wrote pen₄ (bits_of (15 - width) 0) pen₅ → Wrote pen (head_with number width rules foldings flag) pen₅
+  pub wrote_head : {sheet sheet₁ sheet₂ sheet₃ sheet₄ sheet₅ : Sheet} → Wrote sheet (bits_of 8 number) sheet₁ → Wrote sheet₁ (bits_of width rules) sheet₂ → Wrote sheet₂ (bits_of 8 foldings) sheet₃
+      → Wrote sheet₃ (bits_of 1 (flag_bit flag)) sheet₄ → Wrote sheet₄ (bits_of (15 - width) 0) sheet₅ → Wrote sheet (head_with number width rules foldings flag) sheet₅
   wrote_head w₁ w₂ w₃ w₄ w₅ =
       wrote_then H1 (H2 ++ (H3 ++ (H4 ++ H5))) w₁ (wrote_then H2 (H3 ++ (H4 ++ H5)) w₂ (wrote_then H3 (H4 ++ H5) w₃ (wrote_then H4 H5 w₄ w₅)))
 
@@ -147,42 +147,42 @@ module _ (view : ℕ → Rule) {at : ℕ} (tally : Tally) (keys foldings : List 
   pub plate_length : length (bytes_of flag (book_of view tally keys foldings)) ≡ (32 + 42 * tally.foldings + tally.bits + 7) / 8
   plate_length = ap length (sym plate_is) ∙ pack_length (H ++ (F ++ R)) ∙ ap (λ (n : ℕ). (n + 7) / 8) bits_length
 
-  module _ {out : List ℕ} (room : 32 + 42 * tally.foldings + tally.bits ≤ 8 * length out) {pen : Pen} (b : Begins out pen) where
-    ready₀ : Ready pen (H ++ (F ++ R))
+  module _ {out : List ℕ} (room : 32 + 42 * tally.foldings + tally.bits ≤ 8 * length out) {sheet : Sheet} (b : Begins out sheet) where
+    ready₀ : Ready sheet (H ++ (F ++ R))
     ready₀ =
         record { room = omega (arith, room, bits_length, b.bytes, b.count, ap length b.lent) }
 
-    module _ {pen₁ : Pen} (w₁ : Wrote pen (head_of tally.rules tally.foldings flag) pen₁) where
-      ready₁ : Ready pen₁ (F ++ R)
+    module _ {sheet₁ : Sheet} (w₁ : Wrote sheet (head_of tally.rules tally.foldings flag) sheet₁) where
+      ready₁ : Ready sheet₁ (F ++ R)
       ready₁ = ready_then H (F ++ R) ready₀ w₁
 
-      pub ready_pairs : Ready pen₁ (cat folding_bits (map folding_in (take tally.foldings foldings)))
+      pub ready_pairs : Ready sheet₁ (cat folding_bits (map folding_in (take tally.foldings foldings)))
       ready_pairs = ready_first F R ready₁
 
-      module _ {pen₂ : Pen} (w₂ : Wrote pen₁ (cat folding_bits (map folding_in (take tally.foldings foldings))) pen₂) where
-        pub ready_keys : Ready pen₂ (cat rule_bits (rules_in view (take tally.rules keys)))
+      module _ {sheet₂ : Sheet} (w₂ : Wrote sheet₁ (cat folding_bits (map folding_in (take tally.foldings foldings))) sheet₂) where
+        pub ready_keys : Ready sheet₂ (cat rule_bits (rules_in view (take tally.rules keys)))
         ready_keys = ready_then F R ready₁ w₂
 
-        module _ {pen₃ : Pen} (w₃ : Wrote pen₂ (cat rule_bits (rules_in view (take tally.rules keys))) pen₃) where
-          all : Wrote pen (H ++ (F ++ R)) pen₃
+        module _ {sheet₃ : Sheet} (w₃ : Wrote sheet₂ (cat rule_bits (rules_in view (take tally.rules keys))) sheet₃) where
+          all : Wrote sheet (H ++ (F ++ R)) sheet₃
           all = wrote_then H (F ++ R) w₁ (wrote_then F R w₂ w₃)
 
-          pub ready_end : Ready pen₃ []
+          pub ready_end : Ready sheet₃ []
           ready_end = ready_then (H ++ (F ++ R)) [] (ready_as (sym (append-nil (H ++ (F ++ R)))) ready₀) all
 
           -- No bits stood before them.
-          none : bits_in pen ≡ []
-          none = ap₂ (λ (n m : ℕ). unpack (take n pen.out.now) ++ bits_of m pen.begun) b.bytes b.count
+          none : bits_in sheet ≡ []
+          none = ap₂ (λ (n m : ℕ). unpack (take n sheet.out.now) ++ bits_of m sheet.pen.begun) b.bytes b.count
 
           -- The bytes are the plate's, and what stood behind them.
-          pub wrote_plate : (pen₄ : Pen) (n : ℕ) → Finished pen₃ pen₄ n → Stored out (bytes_of flag (book_of view tally keys foldings)) pen₄.out.now n
-          wrote_plate pen₄ n h =
-              let is : pack (bits_in pen₃) ≡ bytes_of flag (book_of view tally keys foldings) =
+          pub wrote_plate : (sheet₄ : Sheet) (n : ℕ) → Finished sheet₃ sheet₄ n → Stored out (bytes_of flag (book_of view tally keys foldings)) sheet₄.out.now n
+          wrote_plate sheet₄ n h =
+              let is : pack (bits_in sheet₃) ≡ bytes_of flag (book_of view tally keys foldings) =
               ap pack (all.is ∙ ap (λ (l : List ℕ). l ++ (H ++ (F ++ R))) none) ∙ plate_is in
               let le = h.1 in
-              let on : pen₃.bytes + (n - pen₃.bytes) ≡ n = omega arith in
-              let kept : drop n pen₃.out.now ≡ drop n out =
-              ap (λ (m : ℕ). drop m pen₃.out.now) (sym on) ∙ sym (drop-drop (n - pen₃.bytes) pen₃.bytes pen₃.out.now)
-              ∙ ap (drop (n - pen₃.bytes)) (all.kept ∙ ap (drop pen₃.bytes) b.lent)
-              ∙ drop-drop (n - pen₃.bytes) pen₃.bytes out ∙ ap (λ (m : ℕ). drop m out) on
+              let on : sheet₃.pen.bytes + (n - sheet₃.pen.bytes) ≡ n = omega arith in
+              let kept : drop n sheet₃.out.now ≡ drop n out =
+              ap (λ (m : ℕ). drop m sheet₃.out.now) (sym on) ∙ sym (drop-drop (n - sheet₃.pen.bytes) sheet₃.pen.bytes sheet₃.out.now)
+              ∙ ap (drop (n - sheet₃.pen.bytes)) (all.kept ∙ ap (drop sheet₃.pen.bytes) b.lent)
+              ∙ drop-drop (n - sheet₃.pen.bytes) sheet₃.pen.bytes out ∙ ap (λ (m : ℕ). drop m out) on
               in (h.0.0 ∙ ap₂ ◌++◌ is kept, h.0.1 ∙ ap length is)

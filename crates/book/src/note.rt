@@ -138,10 +138,12 @@ pub struct Notes<'a> {
 impl<'a> Notes<'a> {
     ghost use Rattle.book.specs.Notes.{tallied, SameRules, SameFoldings};
 
-    // Nothing is noted yet.
+    // The arrays that are lent, and nothing is noted yet.
     pub fn new(keys: &'a mut [u64], seen: &'a mut [u8], foldings: &'a mut [u64]) -> Notes<'a>
         requires { (length keys.old ≡ most_rules) × (length seen.old ≡ slots) × (length foldings.old ≡ most_foldings) }
-        ensures { result.tally ≡ none_noted }
+        ensures begins { result.tally ≡ none_noted }
+        ensures lent { (result.keys.now ≡ keys.old) × (result.seen.now ≡ seen.old) × (result.foldings.now ≡ foldings.old) }
+        ensures same { (result.keys.ghost_name ≡ keys.entry.ghost_name) × (result.seen.ghost_name ≡ seen.entry.ghost_name) × (result.foldings.ghost_name ≡ foldings.entry.ghost_name) }
     {
         let tally = Tally {
             read: 0,

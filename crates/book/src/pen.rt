@@ -2,32 +2,38 @@
 ghost use Rattle.std.specs.Prelude.{◌≡◌, ℕ, [], ◌^◌, ◌≤◌, ◌<◌, get_or};
 ghost use Rattle.plate.specs.Bits.{bits_of};
 
-// The buffer, how many whole bytes are written into it, and the bits that are not yet a byte: their number and how many they are.
-#[derive(Drop)]
-pub struct Pen<'a> {
-    out: &'a mut [u8],
-    bytes: usize,
-    begun: u64,
-    count: usize,
-    ghost part: { count < 8 },
-    ghost held: { begun < 2 ^ count },
-    ghost stored: { (k : ℕ) → get_or out.now k 0 < 256 },
+// How many whole bytes are written, and the bits that are not yet a byte: their number and how many they are.
+#[derive(Clone, Copy)]
+pub struct Pen {
+    pub bytes: usize,
+    pub begun: u64,
+    pub count: usize,
+    pub ghost part: { count < 8 },
+    pub ghost held: { begun < 2 ^ count },
 }
 
-impl<'a> Pen<'a> {
+// A buffer, and the pen that writes into it.
+#[derive(Drop)]
+pub struct Sheet<'a> {
+    pub out: &'a mut [u8],
+    pub pen: Pen,
+    pub ghost stored: { (k : ℕ) → get_or out.now k 0 < 256 },
+}
+
+impl<'a> Sheet<'a> {
     ghost use Rattle.book.specs.Pen.{Begins, Ready, Wrote, Finished};
 
     // Nothing is written yet.
-    pub fn new(out: &'a mut [u8]) -> Pen<'a>
+    pub fn new(out: &'a mut [u8]) -> Sheet<'a>
         ensures same { result.out.ghost_name ≡ out.entry.ghost_name }
         ensures begins { Begins out.old result }
     {
-        Pen {
-            out,
+        let pen = Pen {
             bytes: 0,
             begun: 0,
             count: 0,
-        }
+        };
+        Sheet { out, pen }
     }
 
     // A number in so many bits.
@@ -35,9 +41,9 @@ impl<'a> Pen<'a> {
         requires { (width ≤ 24) × (number < 2 ^ width) × Ready self.old (bits_of width number) }
         ensures { Wrote self.old (bits_of width number) self.new }
     {
-        let mut begun = self.begun * (1u64 << width) + number;
-        let mut count = self.count + width;
-        let mut at = self.bytes;
+        let mut begun = self.pen.begun * (1u64 << width) + number;
+        let mut count = self.pen.count + width;
+        let mut at = self.pen.bytes;
         // Stays: it turns while a whole byte is held, which is what the test says.
         while 8 <= count {
             count -= 8;
@@ -45,17 +51,19 @@ impl<'a> Pen<'a> {
             begun = begun % (1u64 << count);
             at += 1;
         }
-        self.bytes = at;
-        self.begun = begun;
-        self.count = count;
+        self.pen = Pen {
+            bytes: at,
+            begun,
+            count,
+        };
     }
 
-    // 01: "Zero bits fill the last byte." How many bytes there are then.
+    // 01: "Zero bits fill the last byte." How many bytes there are then; the pen stands behind them.
     pub fn finish(&mut self) -> usize
         requires { Ready self.old [] }
         ensures { Finished self.old self.new result }
     {
-        self.put(7 - (self.count + 7) % 8, 0);
-        self.bytes
+        self.put(7 - (self.pen.count + 7) % 8, 0);
+        self.pen.bytes
     }
 }

@@ -11,12 +11,12 @@ ghost use Rattle.book.specs.Note.{rule_from};
 ghost use Rattle.book.specs.Pen.{Ready, Wrote};
 ghost use Rattle.book.specs.Sort.{folding_in, AllSmall};
 
-use super::pen::Pen;
+use super::pen::Sheet;
 use super::{Parts, TARGETS};
 use chars::scan::count_of;
 use plate::edition::head_of;
 
-impl<'a> Pen<'a> {
+impl<'a> Sheet<'a> {
     // 01: "per alternative 3 bits digit count and 4 bits a digit".
     fn put_alternative(&mut self, digits: &[u8])
         requires { (is_alternative digits.now ≡ true) × Ready self.old (alternative_bits digits.now) }

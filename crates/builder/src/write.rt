@@ -8,20 +8,20 @@ ghost use Rattle.builder.specs.Survey.{view};
 
 use super::survey::parts_in;
 use book::note::Notes;
-use book::pen::Pen;
+use book::pen::Sheet;
 use book::{HASHES, PLACES};
 use rule_text::Entry;
 use rule_text::item::item;
 
 // The rule that a key stands for, read again at its place.
-fn put_rule(pen: &mut Pen, text: &[u8], key: u64)
-    requires { Sure (view text.now) (length text.now) key × Ready pen.old (rule_bits (view text.now (place_in key))) }
-    ensures { Wrote pen.old (rule_bits (view text.now (place_in key))) pen.new }
+fn put_rule(sheet: &mut Sheet, text: &[u8], key: u64)
+    requires { Sure (view text.now) (length text.now) key × Ready sheet.old (rule_bits (view text.now (place_in key))) }
+    ensures { Wrote sheet.old (rule_bits (view text.now (place_in key))) sheet.new }
 {
     let at = (key / HASHES % PLACES) as usize;
     let rest = &text[at..];
     if let Entry::Rule(four) = item(rest) {
-        pen.put_rule(parts_in(rest, four));
+        sheet.put_rule(parts_in(rest, four));
     }
 }
 
@@ -33,11 +33,11 @@ pub(crate) fn write_plate(out: &mut [u8], text: &[u8], notes: &Notes, flag: bool
     ensures { Stored out.old (bytes_of flag (book_of (view text.now) notes.now.tally notes.now.keys.now notes.now.foldings.now)) out.new result }
 {
     let tally = notes.tally;
-    let mut pen = Pen::new(out);
-    pen.put_head(tally.rules, tally.foldings, flag);
-    pen.put_foldings(&notes.foldings[..tally.foldings]);
+    let mut sheet = Sheet::new(out);
+    sheet.put_head(tally.rules, tally.foldings, flag);
+    sheet.put_foldings(&notes.foldings[..tally.foldings]);
     for key in &notes.keys[..tally.rules] {
-        put_rule(&mut pen, text, *key);
+        put_rule(&mut sheet, text, *key);
     }
-    pen.finish()
+    sheet.finish()
 }

@@ -15,7 +15,7 @@ pub put_foldings-requires : goal.put_foldings-requires
 put_foldings-requires c =
     let a = c.args in
     let n = a.notes.now in
-    (n.pairs.small, ready_pairs (view a.text.now) n.tally n.keys.now n.foldings.now a.flag c.requires.kept c.requires.ordered c.requires.room c.new-pen.ensures.begins c.put_head.ensures)
+    (n.pairs.small, ready_pairs (view a.text.now) n.tally n.keys.now n.foldings.now a.flag c.requires.kept c.requires.ordered c.requires.room c.new-sheet.ensures.begins c.put_head.ensures)
 
 pub put_rule-requires : goal.put_rule-requires
 put_rule-requires c =
@@ -25,7 +25,7 @@ put_rule-requires c =
     let l = c.loop-key in
     let keys = take n.tally.rules n.keys.now in
     let r = c.requires in
-    let room = ready_keys (view t) n.tally n.keys.now n.foldings.now a.flag r.kept r.ordered r.room c.new-pen.ensures.begins c.put_head.ensures c.put_foldings.ensures in (
+    let room = ready_keys (view t) n.tally n.keys.now n.foldings.now a.flag r.kept r.ordered r.room c.new-sheet.ensures.begins c.put_head.ensures c.put_foldings.ensures in (
       sure_at (view t) (length t) keys l.key-index c.loop-key-test.true r.kept.sure,
       each_ready (bits t) keys l.key-index 0 c.loop-key-test.true l.invariant (ready_as (cat_map rule_bits (λ k. view t (place_in k)) keys) room),
     )
@@ -45,7 +45,7 @@ finish-requires c =
     let keys = take n.tally.rules n.keys.now in
     let r = c.requires in
     let ruled = wrote_as (sym (cat_map rule_bits (λ k. view t (place_in k)) keys)) (each_end (bits t) keys l.key-index c.loop-key-test.false l.invariant) in
-    ready_end (view t) n.tally n.keys.now n.foldings.now a.flag r.kept r.ordered r.room c.new-pen.ensures.begins c.put_head.ensures c.put_foldings.ensures ruled
+    ready_end (view t) n.tally n.keys.now n.foldings.now a.flag r.kept r.ordered r.room c.new-sheet.ensures.begins c.put_head.ensures c.put_foldings.ensures ruled
 
 pub returns : goal.returns
 returns c =
@@ -56,5 +56,5 @@ returns c =
     let keys = take n.tally.rules n.keys.now in
     let r = c.requires in
     let ruled = wrote_as (sym (cat_map rule_bits (λ k. view t (place_in k)) keys)) (each_end (bits t) keys l.key-index c.loop-key-test.false l.invariant) in
-    let written = wrote_plate (view t) n.tally n.keys.now n.foldings.now a.flag r.kept r.ordered r.room c.new-pen.ensures.begins c.put_head.ensures c.put_foldings.ensures ruled c.finish.new.self c.finish.result c.finish.ensures in
+    let written = wrote_plate (view t) n.tally n.keys.now n.foldings.now a.flag r.kept r.ordered r.room c.new-sheet.ensures.begins c.put_head.ensures c.put_foldings.ensures ruled c.finish.new.self c.finish.result c.finish.ensures in
     (search (rules, written), written.1)

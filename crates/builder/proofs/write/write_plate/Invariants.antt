@@ -14,4 +14,4 @@ abbrev pub bits : List ℕ → ℕ → List ℕ
 bits text key = rule_bits (view text (place_in key))
 
 abbrev pub invariant-loop-key : goal.invariant-loop-key
-invariant-loop-key l = Wrote l.initial.pen (cat (bits l.text) (take l.key-index (take l.notes.tally.rules l.notes.keys.now))) l.pen
+invariant-loop-key l = Wrote l.initial.sheet (cat (bits l.text) (take l.key-index (take l.notes.tally.rules l.notes.keys.now))) l.sheet

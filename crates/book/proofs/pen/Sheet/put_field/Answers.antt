@@ -1,4 +1,4 @@
--- `Pen::put_field` meets its contract: the count, and the alternatives behind it, which `split` gives one by one (Alternatives.split_parts). Assumes nothing.
+-- `Sheet::put_field` meets its contract: the count, and the alternatives behind it, which `split` gives one by one (Alternatives.split_parts). Assumes nothing.
 use Prim.Native.Nat.{ℕ, ◌+◌}
 use mathlib.Core.Path.{◌≡◌, refl, sym, ap, subst}
 use mathlib.Core.Bool.{true}
@@ -18,7 +18,7 @@ use Rattle.book.proofs.Alternatives.{gives_parts}
 use Rattle.book.proofs.Faults.{field_fine, field_digits}
 use Rattle.book.proofs.Runs.{every_get}
 use Rattle.book.proofs.Inks.{ready_first, ready_then, ready_as, wrote_then, wrote_as, each_ready, each_turn, each_end}
-use Rattle.book.proofs.pen.Pen.put_field.Goals as goal
+use Rattle.book.proofs.pen.Sheet.put_field.Goals as goal
 
 pub put-requires : goal.put-requires
 put-requires c =

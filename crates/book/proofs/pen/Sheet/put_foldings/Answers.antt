@@ -1,4 +1,4 @@
--- `Pen::put_foldings` meets its contract: of each folding the key, and the target behind it (Inks.each_turn). Assumes nothing.
+-- `Sheet::put_foldings` meets its contract: of each folding the key, and the target behind it (Inks.each_turn). Assumes nothing.
 use Prim.Native.Nat.{ℕ, ◌/◌, ◌%◌}
 use mathlib.Core.Path.{sym}
 use native.Mathlib.Omega.{arith}
@@ -9,7 +9,7 @@ use Rattle.book.specs.Sort.{folding_in}
 use Rattle.book.proofs.Keys.{small_at}
 use Rattle.book.proofs.Inks.{ready_first, ready_then, ready_as, wrote_then, wrote_as, each_ready, each_turn, each_end}
 use Rattle.book.proofs.Scripts.{cat_map}
-use Rattle.book.proofs.pen.Pen.put_foldings.Goals as goal
+use Rattle.book.proofs.pen.Sheet.put_foldings.Goals as goal
 
 pub put-requires : goal.put-requires
 put-requires c =

@@ -1,4 +1,4 @@
--- `Pen::put_alternative` meets its contract. The loop keeps: the digits so far are written (Inks.each_turn). Assumes nothing.
+-- `Sheet::put_alternative` meets its contract. The loop keeps: the digits so far are written (Inks.each_turn). Assumes nothing.
 use mathlib.Core.Path.{sym, ap}
 use native.Mathlib.Omega.{arith}
 use lib.ListN.{length}
@@ -7,7 +7,7 @@ use Rattle.plate.specs.Bits.{bits_of}
 use Rattle.plate.specs.Written.{digit_bits}
 use Rattle.book.proofs.Runs.{alternative_short, digit_at}
 use Rattle.book.proofs.Inks.{ready_first, ready_then, ready_as, wrote_then, wrote_as, each_ready, each_turn, each_end}
-use Rattle.book.proofs.pen.Pen.put_alternative.Goals as goal
+use Rattle.book.proofs.pen.Sheet.put_alternative.Goals as goal
 
 pub put-requires : goal.put-requires
 put-requires c =

@@ -1,8 +1,8 @@
--- `Pen::put_rule` meets its contract: four parts, one behind the other (Scripts.wrote_rule). Assumes nothing.
+-- `Sheet::put_rule` meets its contract: four parts, one behind the other (Scripts.wrote_rule). Assumes nothing.
 use Rattle.book.specs.Note.{rule_from}
 use Rattle.book.proofs.Faults.{clean}
 use Rattle.book.proofs.Scripts.{ready_pattern, ready_start, ready_vowel, ready_other, wrote_rule}
-use Rattle.book.proofs.pen.Pen.put_rule.Goals as goal
+use Rattle.book.proofs.pen.Sheet.put_rule.Goals as goal
 
 pub put_pattern-requires : goal.put_pattern-requires
 put_pattern-requires c = let r = rule_from c.args.parts in ((clean r 0 c.requires.0).short, ready_pattern r c.requires.1)

@@ -1,11 +1,11 @@
--- `Pen::put_pattern` meets its contract. The loop keeps: the bytes so far are written (Inks.each_turn). Assumes nothing.
+-- `Sheet::put_pattern` meets its contract. The loop keeps: the bytes so far are written (Inks.each_turn). Assumes nothing.
 use mathlib.Core.Path.{sym, ap}
 use native.Mathlib.Omega.{arith}
 use lib.ListN.{length}
 use Rattle.laws.specs.Lists.{cat}
 use Rattle.plate.specs.Bits.{bits_of}
 use Rattle.book.proofs.Inks.{ready_then, ready_as, wrote_then, wrote_as, each_ready, each_turn, each_end}
-use Rattle.book.proofs.pen.Pen.put_pattern.Goals as goal
+use Rattle.book.proofs.pen.Sheet.put_pattern.Goals as goal
 
 pub put-requires-in-loop-byte : goal.put-requires-in-loop-byte
 put-requires-in-loop-byte c =

@@ -1,10 +1,10 @@
--- `Pen::put` meets its contract. The loop keeps the bits that stand written and held; a turn moves a whole byte from the pen to the buffer (Inks.byte_turn). Assumes nothing.
+-- `Sheet::put` meets its contract. The loop keeps the bits that stand written and held; a turn moves a whole byte from the pen to the buffer (Inks.byte_turn). Assumes nothing.
 use Prim.Native.Nat.{◌+◌, ◌*◌, ◌^◌, ◌<◌, ◌≤◌}
 use mathlib.Core.Path.{◌≡◌}
 use mathlib.Core.List.{◌++◌}
 use lib.ListN.{length, take, drop}
 use Rattle.plate.specs.Bits.{bits_of, unpack}
-use Rattle.book.proofs.pen.Pen.put.Given as goal
+use Rattle.book.proofs.pen.Sheet.put.Given as goal
 
 abbrev pub invariant-loop-count : goal.invariant-loop-count
 invariant-loop-count l =

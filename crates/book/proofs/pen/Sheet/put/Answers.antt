@@ -1,4 +1,4 @@
--- `Pen::put` meets its contract. The loop keeps the bits that stand written and held; a turn moves a whole byte from the pen to the buffer (Inks.byte_turn). Assumes nothing.
+-- `Sheet::put` meets its contract. The loop keeps the bits that stand written and held; a turn moves a whole byte from the pen to the buffer (Inks.byte_turn). Assumes nothing.
 use Prim.Native.Nat.{◌-◌, ◌<◌, ◌≤◌}
 use mathlib.Core.Path.{refl, ◌∙◌}
 use native.Mathlib.Omega.{arith}
@@ -6,34 +6,34 @@ use lib.ListN.{length, take}
 use Rattle.plate.specs.Bits.{unpack}
 use Rattle.plate.proofs.Packed.{length_bits_of}
 use Rattle.book.proofs.Inks.{shl_one, shl_pos, joined_lt, fits, byte_lt, byte_stored, byte_turn, not_reached, both_bits}
-use Rattle.book.proofs.pen.Pen.put.Goals as goal
+use Rattle.book.proofs.pen.Sheet.put.Goals as goal
 
 pub overflow_mul-begun : goal.overflow_mul-begun
 overflow_mul-begun c =
     let a = c.args in
     let q = c.requires.2 in
-    let n = a.self.now.part in
-    let h = fits a.self.now.count a.width a.self.now.begun a.number (omega arith) (omega arith) a.self.now.held c.requires.1 in
+    let n = a.self.now.pen.part in
+    let h = fits a.self.now.pen.count a.width a.self.now.pen.begun a.number (omega arith) (omega arith) a.self.now.pen.held c.requires.1 in
     rw (shl_one a.width (omega arith)) (omega (arith, h))
 
 pub overflow_add-begun : goal.overflow_add-begun
 overflow_add-begun c =
     let a = c.args in
     let q = c.requires.2 in
-    let n = a.self.now.part in
-    let h = fits a.self.now.count a.width a.self.now.begun a.number (omega arith) (omega arith) a.self.now.held c.requires.1 in
+    let n = a.self.now.pen.part in
+    let h = fits a.self.now.pen.count a.width a.self.now.pen.begun a.number (omega arith) (omega arith) a.self.now.pen.held c.requires.1 in
     rw (shl_one a.width (omega arith)) (omega (arith, h))
 
 pub overflow_add-count : goal.overflow_add-count
-overflow_add-count c = let n = c.args.self.now.part in omega arith
+overflow_add-count c = let n = c.args.self.now.pen.part in omega arith
 
 pub loop-count-init : goal.loop-count-init
 loop-count-init c =
     let a = c.args in
     let q = c.requires.2 in
-    let n = a.self.now.part in
+    let n = a.self.now.pen.part in
     let m = q.room in (
-      rw (shl_one a.width (omega arith)) (joined_lt a.self.now.count a.width a.self.now.begun a.number a.self.now.held
+      rw (shl_one a.width (omega arith)) (joined_lt a.self.now.pen.count a.width a.self.now.pen.begun a.number a.self.now.pen.held
           c.requires.1),
       omega arith,
       refl,
@@ -62,11 +62,11 @@ pub returns : goal.returns
 returns c =
     let a = c.args in
     let l = c.loop-count in
-    let i = both_bits a.self.now.count a.width a.self.now.begun a.number (omega arith) c.requires.1 (unpack (take a.self.now.bytes a.self.now.out.now)) _ l.invariant.3 in
+    let i = both_bits a.self.now.pen.count a.width a.self.now.pen.begun a.number (omega arith) c.requires.1 (unpack (take a.self.now.pen.bytes a.self.now.out.now)) _ l.invariant.3 in
     record { is = i; kept = l.invariant.4; size = l.invariant.5; moved = omega (arith, length_bits_of a.width a.number); same = l.invariant.7 }
 
 pub invariant_of-self : goal.invariant_of-self
 invariant_of-self c =
     let l = c.loop-count in
     let b = byte_lt l.count l.begun c.loop-count-test.true l.invariant.0 in
-    record { part = l.self.part; held = l.self.held; stored = byte_stored l.self.out.now l.at _ b l.self.stored }
+    record { stored = byte_stored l.self.out.now l.at _ b l.self.stored }

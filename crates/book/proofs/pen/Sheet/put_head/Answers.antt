@@ -1,4 +1,4 @@
--- `Pen::put_head` meets its contract: plate tells the head of so many rules (Scripts.told_head), and its five numbers are written one behind the other. Assumes nothing.
+-- `Sheet::put_head` meets its contract: plate tells the head of so many rules (Scripts.told_head), and its five numbers are written one behind the other. Assumes nothing.
 use mathlib.Core.Path.{◌≡◌, refl, ◌∙◌, ap}
 use mathlib.Core.Bool.{Bool, true, false}
 use mir.Val.{bool_byte}
@@ -6,7 +6,7 @@ use Rattle.plate.specs.Bits.{bits_of}
 use Rattle.plate.specs.Written.{flag_bit}
 use Rattle.book.proofs.Inks.{wrote_as}
 use Rattle.book.proofs.Scripts.{told_head, wrote_head}
-use Rattle.book.proofs.pen.Pen.put_head.Goals as goal
+use Rattle.book.proofs.pen.Sheet.put_head.Goals as goal
 
 flag_is : (b : Bool) → bool_byte b ≡ flag_bit b
 flag_is true = refl
