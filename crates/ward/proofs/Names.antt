@@ -7,7 +7,7 @@ use mathlib.Core.List.{List, [], ◌∷◌, ◌++◌, append_assoc}
 use native.Mathlib.Omega.{arith}
 use borrow.Author.Tests.{le-leb, lt-leb, ne_eqb, eqb-true}
 use lib.Dec.{eqb}
-use lib.ListN.{length, take, drop, length-append, length-take, length-drop, drop_of_length-le}
+use lib.ListN.{length, take, drop, length-append, length-drop, drop_of_length-le}
 use lib.Seq.{take-length, take-append_seam, drop_at}
 use Rattle.std.proofs.Math.Nat.{min-eq_left, min-eq_right}
 use Rattle.laws.specs.Lists.{In, until, count_of, onto, split_at}
@@ -130,11 +130,3 @@ smaller_left a b h = ap (λ (t : Bool). cond t a b) (sym (le-leb a b h))
 
 pub smaller_right : (a b : ℕ) → b < a → b ≡ smaller a b
 smaller_right a b h = ap (λ (t : Bool). cond t a b) (sym (lt-leb a b h))
-
--- The most that are asked for and one more, or all; no more than a `usize` can say.
-pub counted_to : (most n : ℕ) (ns : List (List ℕ)) → n ≡ min (most + 1) 18446744073709551615 → length ns ≤ 18446744073709551615
-    → length (take n ns) ≡ smaller (most + 1) (length ns)
-counted_to most n ns e h =
-    by_order (length (take n ns) ≡ smaller (most + 1) (length ns)) (length ns) (most + 1)
-    (λ i. omega (arith, length-take n ns, e, h) ∙ smaller_right (most + 1) (length ns) i)
-    (λ i. omega (arith, length-take n ns, e, h) ∙ smaller_left (most + 1) (length ns) i)

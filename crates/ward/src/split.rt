@@ -44,7 +44,7 @@ impl<'a> Iterator for Names<'a> {
         if bytes.is_empty() {
             return None;
         }
-        let end = count_until(bytes, b'\n');
+        let end = name_end(bytes, 0);
         self.rest = &bytes[(end + 1).min(bytes.len())..];
         Some(&bytes[..end])
     }
@@ -62,5 +62,12 @@ pub fn name_end(bytes: &[u8], from: usize) -> usize
 pub fn count_names(bytes: &[u8], most: usize) -> usize
     ensures { result ≡ smaller (most + 1) (length (names bytes.now)) }
 {
-    Names::new(bytes).take(most.saturating_add(1)).count()
+    // The one over them is not read: whether there is one is told by what is left.
+    let mut left = Names::new(bytes);
+    for n in 0..most {
+        let Some(_) = left.next() else {
+            return n;
+        };
+    }
+    if left.rest.is_empty() { most } else { most + 1 }
 }

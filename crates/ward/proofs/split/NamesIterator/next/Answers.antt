@@ -14,7 +14,7 @@ pub returns-clause-steps : goal.returns-clause-steps
 returns-clause-steps c =
     let l = c.self.inside.rest.now in
     sym c.self.view_is
-    ∙ next_name l _ _ c.count_until-end.result c.min.result (not_empty l c.if-is_empty.ensures) c.count_until-end.ensures.0 refl c.min.ensures (rest c.min.result l)
+    ∙ next_name l _ _ c.name_end-end.result c.min.result (not_empty l c.if-is_empty.ensures) (omega (arith, c.name_end-end.ensures.0)) refl c.min.ensures (rest c.min.result l)
 
 pub returns-clause-goes : goal.returns-clause-goes
 returns-clause-goes c =
