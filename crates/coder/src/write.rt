@@ -12,7 +12,7 @@ pub(crate) fn write(out: &mut [u8], bs: &Branches)
 {
     for (k, b) in bs.as_slice().iter().enumerate() {
         let at = 7 * k;
-        if 0 < k {
+        if 0 < at {
             out[at - 1] = b'|';
         }
         out[at..at + 6].copy_from_slice(&b.code());

@@ -5,7 +5,7 @@ use Rattle.std.proofs.lemmas.List.{length-map, get_or-map}
 use Rattle.branches.specs.Branches.{Branch, code}
 use Rattle.coder.specs.Answer.{joined}
 use Rattle.coder.proofs.Joined.{barred, six_more, no_bar, bar, put_on, as_long, all_joined}
-use Rattle.coder.proofs.write.write.Goals.{then-k-gt0, else-k-gt0}
+use Rattle.coder.proofs.write.write.Goals.{then-at-gt0, else-at-gt0}
 use Rattle.coder.proofs.write.write.Goals as goal
 
 pub loop-k-init : goal.loop-k-init
@@ -24,12 +24,12 @@ loop-k-preserved c =
     let n = length-map bs code in
     let below : k < length cs = omega (arith, n, c.loop-k-test.true, ap length all.ensures) in
     let upto : k ≤ length cs = omega arith in
-    let lent = c.if-k-gt0.out in
-    let before : lent ≡ barred (take k cs) ++ drop (7 * k) o = elim c.if-k-gt0.branch [
-      | then-k-gt0 w ↦ w.out-is ∙ bar cs k l.invariant.0 o l.out w.if-k-gt0.true upto (omega (arith, n, p, below, w.if-k-gt0.true)) l.invariant.2
-      | else-k-gt0 w ↦ w.out-is ∙ no_bar cs k l.invariant.0 o l.out (omega (arith, w.if-k-gt0.false)) l.invariant.2
+    let lent = c.if-at-gt0.out in
+    let before : lent ≡ barred (take k cs) ++ drop (7 * k) o = elim c.if-at-gt0.branch [
+      | then-at-gt0 w ↦ w.out-is ∙ bar cs k l.invariant.0 o l.out (omega (arith, w.if-at-gt0.true)) upto (omega (arith, n, p, below, w.if-at-gt0.true)) l.invariant.2
+      | else-at-gt0 w ↦ w.out-is ∙ no_bar cs k l.invariant.0 o l.out (omega (arith, w.if-at-gt0.false)) l.invariant.2
     ] in
-    let long = c.if-k-gt0.auto.out ∙ l.invariant.1 in
+    let long = c.if-at-gt0.auto.out ∙ l.invariant.1 in
     let item : get_or bs k c.b-item.result ≡ c.b-item.result = ap (λ (x : List Branch). get_or x k c.b-item.result) (sym all.ensures) ∙ sym c.b-item.is in
     let here : c.code.result ≡ get_or cs k [] =
     c.code.ensures ∙ ap code (sym item) ∙ sym (get_or-map code bs k c.b-item.result [] (omega (arith, below, n))) in
