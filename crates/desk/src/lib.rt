@@ -13,7 +13,7 @@ use front::status::Status;
 use help::PAGE;
 use names::answer::{Answering, Way};
 use names::given::{is_input, load};
-use names::lines::Lines;
+use names::lines::{LINE_MOST, Lines};
 use std::io::IsTerminal;
 
 // A person sits at the desk: what is typed and what is answered are on a terminal.
@@ -28,9 +28,9 @@ fn serve(host: Host, plate: &[u8], is_spent: bool) -> Status {
     if is_asked {
         out.put(b"Type a name and press Enter; Ctrl-D in an empty line ends.\n");
     }
-    let mut chunk = [0; OUT_ROOM];
+    let mut chunk = [0; OUT_ROOM + LINE_MOST];
     let source = Source::input(&host.rt, is_spent);
-    let mut lines = Lines::new(FilePath::new(host, b"-"), source, &mut chunk);
+    let mut lines = Lines::new(FilePath::new(host, b"-"), source, &mut chunk).even();
     let answering = Answering {
         plate,
         way: Way::Desk,

@@ -2,6 +2,7 @@
 ghost use Rattle.std.specs.Prelude.{◌≤◌, length};
 
 use super::host::{Host, Reason};
+use super::show::Name;
 use super::status::Status;
 use std::fmt;
 use std::fmt::{Display, Write};
@@ -126,6 +127,14 @@ impl<'a> Out<'a> {
     // The same of what is shown.
     pub fn say<D: Display + Drop>(&mut self, what: D) {
         let _ = self.write(what);
+    }
+
+    // The same of a name. Most names are plain, and stand as they are without a way over a `str`.
+    pub fn put_name(&mut self, name: Name<'_>) {
+        match name.plain() {
+            Some(bytes) => self.put(bytes),
+            None => self.say(name),
+        }
     }
 
     // Writes what is left; how the run went.

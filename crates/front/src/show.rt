@@ -90,13 +90,39 @@ fn shown_columns(c: char) -> usize {
     }
 }
 
+// How far to the right each hexadecimal digit of a character's number is shifted.
+const SHIFTS: [u32; 6] = [20, 16, 12, 8, 4, 0];
+
+// The digits of a number behind a front. Their `str`s stand ready, since a list of names may have many of them to show.
+fn write_hex<W: Write>(f: &mut Formatter<W>, front: &str, n: u32, shifts: &[u32]) -> fmt::Result {
+    const DIGITS: [&str; 16] = [
+        "0", "1", "2", "3", "4", "5", "6", "7", "8", "9", "A", "B", "C", "D", "E", "F",
+    ];
+    f.write_str(front)?;
+    for shift in shifts {
+        f.write_str(DIGITS[(n.checked_shr(*shift).unwrap_or(0) % 16) as usize])?;
+    }
+    Ok(())
+}
+
+// Four digits at least.
+fn write_escape<W: Write>(f: &mut Formatter<W>, c: char) -> fmt::Result {
+    let shifts = match c {
+        ..'\u{10000}' => &SHIFTS[2..],
+        ..'\u{100000}' => &SHIFTS[1..],
+        _ => &SHIFTS,
+    };
+    write_hex(f, "\\u{", c as u32, shifts)?;
+    f.write_str("}")
+}
+
 impl Display for Piece {
     fn fmt<W: Write>(&self, f: &mut Formatter<W>) -> fmt::Result {
         match *self {
             Piece::Char(c) if is_shown(c) => f.write_char(c),
-            Piece::Char(c) if c.is_ascii() => write!(f, "\\x{:02X}", c as u32),
-            Piece::Char(c) => write!(f, "\\u{{{:04X}}}", c as u32),
-            Piece::Byte(b) => write!(f, "\\x{b:02X}"),
+            Piece::Char(c) if c.is_ascii() => write_hex(f, "\\x", c as u32, &SHIFTS[4..]),
+            Piece::Char(c) => write_escape(f, c),
+            Piece::Byte(b) => write_hex(f, "\\x", u32::from(b), &SHIFTS[4..]),
         }
     }
 }
@@ -113,10 +139,16 @@ impl<'a> Pieces<'a> {
     }
 }
 
-// The character that bytes begin with, which has four at most.
+// The character that bytes begin with. The first of them tells how many it has.
 fn first_char(bytes: &[u8]) -> Option<char> {
-    let front = bytes.get(..4).unwrap_or(bytes);
-    front.utf8_chunks().next()?.valid().chars().next()
+    let width = match *bytes.first()? {
+        first @ 0..=0x7F => return Some(char::from(first)),
+        0xC2..=0xDF => 2,
+        0xE0..=0xEF => 3,
+        0xF0..=0xF4 => 4,
+        _ => return None,
+    };
+    str::from_utf8(bytes.get(..width)?).ok()?.chars().next()
 }
 
 impl Iterator for Pieces<'_> {
@@ -141,13 +173,17 @@ pub struct Text<'a>(pub &'a [u8]);
 
 impl Display for Text<'_> {
     fn fmt<W: Write>(&self, f: &mut Formatter<W>) -> fmt::Result {
-        if let Ok(text) = str::from_utf8(self.0) {
-            if text.chars().all(is_shown) {
-                return f.write_str(text);
+        let Ok(text) = str::from_utf8(self.0) else {
+            for piece in Pieces::of(self.0) {
+                piece.fmt(f)?;
             }
+            return Ok(());
+        };
+        if text.chars().all(is_shown) {
+            return f.write_str(text);
         }
-        for piece in Pieces::of(self.0) {
-            write!(f, "{piece}")?;
+        for c in text.chars() {
+            Piece::Char(c).fmt(f)?;
         }
         Ok(())
     }
@@ -166,6 +202,15 @@ fn front_of(name: &[u8]) -> &[u8] {
         end = end.wrapping_add(piece.width());
     }
     name.get(..end).unwrap_or(name)
+}
+
+impl<'a> Name<'a> {
+    // The name as it stands, where each byte of it is a character that is shown.
+    pub fn plain(self) -> Option<&'a [u8]> {
+        let name = self.0;
+        let is_plain = name.len() <= LONGEST && name.iter().all(|b| matches!(b, b' '..=b'~'));
+        is_plain.then_some(name)
+    }
 }
 
 impl Display for Name<'_> {

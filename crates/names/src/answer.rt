@@ -87,7 +87,7 @@ impl Answering<'_> {
             Err(refused) => tell_refused(out, refused),
             Ok(codes) => {
                 if named {
-                    out.say(Name(name));
+                    out.put_name(Name(name));
                     out.put(b"\t");
                 }
                 out.put(codes);
@@ -110,7 +110,7 @@ impl Answering<'_> {
 
     // The shelf and the codes to search under.
     fn desk_line(self, out: &mut Out<'_>, name: &[u8]) {
-        out.say(Name(name));
+        out.put_name(Name(name));
         out.put(b": ");
         let mut room = [0; CODES_ROOM];
         match coded(self.plate, name, Codes::All, &mut room) {

@@ -7,7 +7,7 @@ use front::status::Status;
 
 // A name has 256 bytes at most, a byte order mark 3, a CR 1. One byte more tells a longer line; what follows is not looked at, since the line is refused
 // whatever it is.
-const LINE_MOST: usize = 261;
+pub const LINE_MOST: usize = 261;
 
 // The byte order mark that some programs put before the first line.
 const MARK: &[u8] = b"\xEF\xBB\xBF";
@@ -22,13 +22,19 @@ pub struct Lines<'a> {
     stop: usize,
     at: usize,
     end: usize,
+    // Up to here no newline stands in what is not taken yet: a line may come in many small pieces, and none of it is looked at twice.
+    searched: usize,
     count: u64,
     is_end: bool,
+    // The most that is kept of a line that is not at its end, and the most that is read at once.
+    keeps: usize,
+    reads: usize,
 }
 
 impl<'a> Lines<'a> {
     // The path is for the words where the source cannot be read.
     pub fn new(path: FilePath<'a>, source: Source, chunk: &'a mut [u8]) -> Lines<'a> {
+        let reads = chunk.len();
         Lines {
             path,
             source,
@@ -37,9 +43,24 @@ impl<'a> Lines<'a> {
             stop: 0,
             at: 0,
             end: 0,
+            searched: 0,
             count: 0,
             is_end: false,
+            keeps: LINE_MOST,
+            reads,
         }
+    }
+
+    // Each read is of one length, whatever is kept of a line: how much was read is seen where the answers are not taken any more.
+    pub fn even(mut self) -> Lines<'a> {
+        self.reads = self.chunk.len().saturating_sub(LINE_MOST);
+        self
+    }
+
+    // As much as this is kept of a line that is not at its end.
+    pub fn keeping(mut self, most: usize) -> Lines<'a> {
+        self.keeps = most;
+        self
     }
 
     // The line up to a place.
@@ -52,24 +73,26 @@ impl<'a> Lines<'a> {
 
     // Takes the next line that was read to its newline, if there is one.
     pub fn take(&mut self) -> bool {
-        let (at, end) = (self.at, self.end);
-        let read = self.chunk.get(at..end).unwrap_or_default();
+        let (from, end) = (self.at.max(self.searched), self.end);
+        let read = self.chunk.get(from..end).unwrap_or_default();
         let Some(n) = read.iter().position(|b| *b == b'\n') else {
+            self.searched = end;
             return false;
         };
-        let stop = at.wrapping_add(n);
+        let stop = from.wrapping_add(n);
         self.take_to(stop, stop.wrapping_add(1));
         true
     }
 
     // Takes all lines that were read to their newlines, if there are some.
     pub fn take_all(&mut self) -> bool {
-        let (at, end) = (self.at, self.end);
-        let read = self.chunk.get(at..end).unwrap_or_default();
+        let (from, end) = (self.at.max(self.searched), self.end);
+        let read = self.chunk.get(from..end).unwrap_or_default();
         let Some(n) = read.iter().rposition(|b| *b == b'\n') else {
+            self.searched = end;
             return false;
         };
-        let stop = at.wrapping_add(n).wrapping_add(1);
+        let stop = from.wrapping_add(n).wrapping_add(1);
         self.take_to(stop, stop);
         true
     }
@@ -84,14 +107,16 @@ impl<'a> Lines<'a> {
         true
     }
 
-    // Moves the front of the line that is not whole to that of the chunk; how many bytes it has.
+    // Moves the front of the line that is not whole to that of the chunk, where it does not stand there yet; how many bytes it has.
     fn move_front(&mut self) -> usize {
         let (at, end) = (self.at, self.end);
-        let most = end.min(at.saturating_add(LINE_MOST));
+        let most = end.min(at.saturating_add(self.keeps));
         if most <= at || self.chunk.len() < most {
             return 0;
         }
-        self.chunk.copy_within(at..most, 0);
+        if 0 < at {
+            self.chunk.copy_within(at..most, 0);
+        }
         most - at
     }
 
@@ -102,10 +127,13 @@ impl<'a> Lines<'a> {
 
     // Reads once; whether there was more. A terminal may give more behind an end.
     pub fn read(&mut self) -> Result<bool, Status> {
+        let at = self.at;
         let kept = self.move_front();
+        self.searched = self.searched.saturating_sub(at).min(kept);
         self.at = 0;
         self.end = kept;
-        let room = self.chunk.get_mut(kept..).unwrap_or_default();
+        let stop = self.chunk.len().min(kept.saturating_add(self.reads));
+        let room = self.chunk.get_mut(kept..stop).unwrap_or_default();
         match self.source.read_once(room) {
             Ok(n) => {
                 self.end = kept.wrapping_add(n);

@@ -60,7 +60,8 @@ impl Ward<'_, '_> {
     fn put_line(&mut self, name: &[u8], line: &[u8]) {
         let name = name.strip_suffix(b"\n").unwrap_or(name);
         if !self.is_bare {
-            self.out.say(Name(name.strip_suffix(b"\r").unwrap_or(name)));
+            self.out
+                .put_name(Name(name.strip_suffix(b"\r").unwrap_or(name)));
             self.out.put(b"\t");
         }
         self.out.put(line);

@@ -4,6 +4,9 @@ use files::path::FilePath;
 use front::status::Status;
 use names::lines::Lines;
 
+// A name has 256 bytes at most, a byte order mark 3; a line of so many is refused, and so is all that begins with it.
+const KEPT: usize = 300;
+
 impl Ward<'_, '_> {
     // Reads once, behind what was answered; whether there was more.
     fn read_more(&mut self, names: &mut Lines<'_>) -> Result<bool, Status> {
@@ -34,7 +37,10 @@ impl Ward<'_, '_> {
     // All names of a file; `-` is standard input.
     pub(crate) fn take_path(&mut self, lines: &mut [u8], chunk: &mut [u8], path: FilePath<'_>) {
         let done = match path.open_behind(self.is_spent) {
-            Ok(source) => self.take_input(lines, &mut Lines::new(path, source, chunk)),
+            Ok(source) => self.take_input(
+                lines,
+                &mut Lines::new(path, source, chunk).keeping(KEPT),
+            ),
             Err(status) => Err(status),
         };
         if let Err(status) = done {
