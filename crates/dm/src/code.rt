@@ -19,7 +19,7 @@ fn code_lines(
     source: Source,
     chunk: &mut [u8],
 ) {
-    let mut lines = Lines::new(path, source, chunk);
+    let mut lines = Lines::new(path, source, chunk).even();
     answering.answer_all(out, &mut lines, false);
 }
 

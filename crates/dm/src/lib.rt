@@ -14,6 +14,12 @@ use front::rooms::{FILE_ROOM, OUT_ROOM, WORD_ROOM};
 use front::status::Status;
 use help::PAGE;
 use names::answer::Codes;
+use names::lines::LINE_MOST;
+
+// The part for a file; what stands behind it is for what is kept of a line of names.
+fn file_room(text: &mut [u8]) -> &mut [u8] {
+    text.get_mut(..FILE_ROOM).unwrap_or_default()
+}
 
 // How the command went, or the status of what was told instead. The rooms are for a plate, for a text or an index, and for what is said.
 // Stays: a struct of the three rooms gets no proof. By value, "a parameter that holds a `&mut [T]` which the caller gets back is passed on to a call" is not
@@ -29,9 +35,9 @@ fn command(
     match word {
         b"list" => code::run(host, scan, Codes::All, plate, text, out),
         b"encode" => code::run(host, scan, Codes::First, plate, text, out),
-        b"build" => make::build(host, scan, plate, text),
-        b"check" => make::check(host, scan, plate, text, out),
-        b"index" => Ok(index_command::run(host, scan, plate, text, out)),
+        b"build" => make::build(host, scan, plate, file_room(text)),
+        b"check" => make::check(host, scan, plate, file_room(text), out),
+        b"index" => Ok(index_command::run(host, scan, plate, file_room(text), out)),
         b"help" => Ok(page(host, PAGE)),
         _ => Err(tell_word(host, Misuse::NoCommand, word)),
     }
@@ -41,7 +47,7 @@ fn command(
 fn command_at(host: Host, scan: &Scan, i: usize) -> Result<Status, Status> {
     let mut room = [0; WORD_ROOM];
     let mut plate = [0; FILE_ROOM];
-    let mut text = [0; FILE_ROOM];
+    let mut text = [0; FILE_ROOM + LINE_MOST];
     let mut out = [0; OUT_ROOM];
     let word = word(&host.rt, i, &mut room).unwrap_or_default();
     command(host, scan, word, &mut plate, &mut text, &mut out)

@@ -45,6 +45,8 @@ fn build_to(
     Ok(path.keep(plate, input.as_ref()))
 }
 
+// This has a frame of its own, so that its two rooms are not held by the other commands.
+#[inline(never)]
 pub(crate) fn build(
     host: Host,
     scan: &Scan,

@@ -49,9 +49,8 @@ impl Asked<'_> {
     }
 
     pub(crate) fn add(self, text: &mut [u8], out: &mut [u8]) -> Result<Status, Status> {
-        let mut index = [0; WORD_ROOM];
-        let mut report = [0; WORD_ROOM];
-        let Some(kept) = Kept::at(self.host, self.third, &mut index, &mut report) else {
+        let mut room = [0; WORD_ROOM];
+        let Some(kept) = Kept::at(self.host, self.third, &mut room) else {
             return Err(no_path(self.host));
         };
         self.add_to(kept, text, out)

@@ -39,7 +39,8 @@ impl Records<'_> {
     // The name that was asked for, where there are several, and a record's number.
     fn put_front(self, out: &mut Out<'_>, record: u16) {
         if let Some(name) = self.name {
-            out.say(format_args!("{name}\t"));
+            out.put_name(name);
+            out.put(b"\t");
         }
         out.say(record);
     }
@@ -66,7 +67,9 @@ impl Records<'_> {
             };
             if u16::from_be_bytes(*next) == record {
                 self.put_front(out, record);
-                out.say(format_args!("\t{}\n", Name(name)));
+                out.put(b"\t");
+                out.put_name(Name(name));
+                out.put(b"\n");
                 left = behind;
             }
         }
@@ -194,8 +197,8 @@ impl Asked<'_> {
         let names = self.named_file(&mut room)?;
         let several = odd_place(host, self.scan, true).is_some();
         let search = Search::new(self.plate, index, several, names);
-        // Whether the file is an index, asked once before the names: the empty name is refused by none.
-        if search.look_up(text, b"", &mut [0; RECORDS_ROOM])?.is_none() {
+        // Whether the file is an index, asked once before the names: the empty name is refused by none. Its records go where nothing is said yet.
+        if search.look_up(text, b"", out)?.is_none() {
             return Err(Unfit::Damaged.tell(index));
         }
         let mut out = Out::answers(host, out);

@@ -4,9 +4,9 @@ use files::facts::is_same;
 use files::path::FilePath;
 use files::system::open_read;
 use front::host::Host;
-use front::options::word;
 use front::status::Status;
 use std::fs::Metadata;
+use std::rt::Env;
 
 // The program takes an index up to so many bytes; the library takes any.
 const INDEX_MOST: usize = 65536;
@@ -42,18 +42,6 @@ pub(crate) fn read_index<'a>(path: FilePath<'_>, room: &'a mut [u8]) -> Result<&
     read_up_to(INDEX_MOST, Unfit::LongIndex, path, room)
 }
 
-// The path of the report of the index at a path, where there is one.
-fn report_path<'a>(index: &[u8], room: &'a mut [u8]) -> Option<&'a [u8]> {
-    let n = index.len();
-    let end = n + END.len();
-    if room.len() < end || matches!(index, b"" | b"-") {
-        return None;
-    }
-    room[..n].copy_from_slice(index);
-    room[n..end].copy_from_slice(END);
-    Some(&room[..end])
-}
-
 // The paths of the two files.
 #[derive(Clone, Copy)]
 pub(crate) struct Kept<'a> {
@@ -62,18 +50,19 @@ pub(crate) struct Kept<'a> {
 }
 
 impl<'a> Kept<'a> {
-    // By the argument at a place, which names the index.
-    pub(crate) fn at(
-        host: Host,
-        i: usize,
-        index: &'a mut [u8],
-        report: &'a mut [u8],
-    ) -> Option<Kept<'a>> {
-        let index = word(&host.rt, i, index).ok()?;
-        let report = report_path(index, report)?;
+    // By the argument at a place, which names the index. The path of the report begins with that of the index, so that one room has both.
+    pub(crate) fn at(host: Host, i: usize, room: &'a mut [u8]) -> Option<Kept<'a>> {
+        let Ok(n) = host.rt.arg(i, room) else {
+            return None;
+        };
+        let end = n + END.len();
+        if room.len() < end || matches!(&room[..n], b"" | b"-") {
+            return None;
+        }
+        room[n..end].copy_from_slice(END);
         Some(Kept {
-            index: FilePath::new(host, index),
-            report: FilePath::new(host, report),
+            index: FilePath::new(host, &room[..n]),
+            report: FilePath::new(host, &room[..end]),
         })
     }
 
