@@ -82,7 +82,7 @@ fn run_lines(rt: &impl Print, text: &[u8]) -> Tally {
 
 fn run_file(rt: &(impl Files + Print + Eprint), path: &str) {
     let mut room = [0; 65536];
-    let tally = run_lines(rt, read(rt, path, &mut room));
+    let tally = run_lines(rt, read(rt, path.as_bytes(), &mut room));
     // What cannot be written is missed by who compares what was.
     let _ = println!(rt; "{path}: {tally}");
 }

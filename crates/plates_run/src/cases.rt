@@ -152,7 +152,7 @@ impl Laid<'_> {
 
 pub(crate) fn run(rt: &(impl Files + Print + Eprint), path: &str) {
     let mut room = [0; 65536];
-    let file = read(rt, path, &mut room);
+    let file = read(rt, path.as_bytes(), &mut room);
     let mut laid = Laid {
         room: &mut [0; ROOM],
         end: 0,

@@ -33,8 +33,7 @@ fn fill(file: &mut impl Read, room: &mut [u8]) -> usize
     done
 }
 
-// The whole of a file at once; nothing, and a word of it, if it cannot be read. One that fills the room may go on behind it, so it is not taken.
-pub fn read<'a>(rt: &(impl Files + Print + Eprint), path: &str, room: &'a mut [u8]) -> &'a [u8]
+fn read_at<'a>(rt: &(impl Files + Print + Eprint), path: &str, room: &'a mut [u8]) -> &'a [u8]
     ensures { length result.now ≤ length room.old }
 {
     match File::open(rt, path) {
@@ -51,4 +50,16 @@ pub fn read<'a>(rt: &(impl Files + Print + Eprint), path: &str, room: &'a mut [u
         }
     }
     &[]
+}
+
+// The whole of a file at once; nothing, and a word of it, if it cannot be read. One that fills the room may go on behind it, so it is not taken. A path that
+// is no UTF-8 cannot be given to std.
+pub fn read<'a>(rt: &(impl Files + Print + Eprint), path: &[u8], room: &'a mut [u8]) -> &'a [u8]
+    ensures { length result.now ≤ length room.old }
+{
+    let Ok(text) = str::from_utf8(path) else {
+        fault(rt, path);
+        return &[];
+    };
+    read_at(rt, text, room)
 }
