@@ -21,6 +21,11 @@ fn file_room(text: &mut [u8]) -> &mut [u8] {
     text.get_mut(..FILE_ROOM).unwrap_or_default()
 }
 
+// The part for what is said, likewise.
+fn answers_room(out: &mut [u8]) -> &mut [u8] {
+    out.get_mut(..OUT_ROOM).unwrap_or_default()
+}
+
 // How the command went, or the status of what was told instead. The rooms are for a plate, for a text or an index, and for what is said.
 // Stays: a struct of the three rooms gets no proof. By value, "a parameter that holds a `&mut [T]` which the caller gets back is passed on to a call" is not
 // covered; behind a `&mut`, two of its rooms cannot be lent at once.
@@ -33,10 +38,10 @@ fn command(
     out: &mut [u8],
 ) -> Result<Status, Status> {
     match word {
-        b"list" => code::run(host, scan, Codes::All, plate, text, out),
-        b"encode" => code::run(host, scan, Codes::First, plate, text, out),
+        b"list" => code::run(host, scan, Codes::All, plate, text, answers_room(out)),
+        b"encode" => code::run(host, scan, Codes::First, plate, text, answers_room(out)),
         b"build" => make::build(host, scan, plate, file_room(text)),
-        b"check" => make::check(host, scan, plate, file_room(text), out),
+        b"check" => make::check(host, scan, plate, file_room(text), answers_room(out)),
         b"index" => Ok(index_command::run(host, scan, plate, file_room(text), out)),
         b"help" => Ok(page(host, PAGE)),
         _ => Err(tell_word(host, Misuse::NoCommand, word)),
@@ -48,7 +53,7 @@ fn command_at(host: Host, scan: &Scan, i: usize) -> Result<Status, Status> {
     let mut room = [0; WORD_ROOM];
     let mut plate = [0; FILE_ROOM];
     let mut text = [0; FILE_ROOM + LINE_MOST];
-    let mut out = [0; OUT_ROOM];
+    let mut out = [0; OUT_ROOM + LINE_MOST];
     let word = word(&host.rt, i, &mut room).unwrap_or_default();
     command(host, scan, word, &mut plate, &mut text, &mut out)
 }

@@ -12,7 +12,7 @@ mod find; // find.rt: the records that share a code with a name
 use front::arguments::Arguments;
 use front::host::Host;
 use front::options::{Kind, Scan, not_taken, word};
-use front::rooms::WORD_ROOM;
+use front::rooms::{OUT_ROOM, WORD_ROOM};
 use front::status::Status;
 use names::given::load;
 
@@ -71,6 +71,11 @@ struct Asked<'a> {
     plate: &'a [u8],
 }
 
+// The part for what is said; what stands behind it is for what is kept of a line of names.
+fn answers_room(out: &mut [u8]) -> &mut [u8] {
+    out.get_mut(..OUT_ROOM).unwrap_or_default()
+}
+
 // How it went, or the status of what was told instead.
 fn serve(
     host: Host,
@@ -100,8 +105,8 @@ fn serve(
     };
     match command {
         Command::Make => asked.make(text, out),
-        Command::Add => asked.add(text, out),
-        Command::Find => asked.find(text, out),
+        Command::Add => asked.add(text, answers_room(out)),
+        Command::Find => asked.find(text, answers_room(out)),
     }
 }
 

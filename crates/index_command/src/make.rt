@@ -64,7 +64,7 @@ impl Asked<'_> {
             report: &mut report,
             noted: 0,
         };
-        let mut lines = Lines::new(from, source, chunk);
+        let mut lines = Lines::new(from, source, chunk).even();
         let status = take_lines(&mut growth, &mut lines, from)?;
         to.keep(growth.index(), growth.report(), input.as_ref())?;
         Ok(status)

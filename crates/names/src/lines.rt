@@ -22,7 +22,7 @@ pub struct Lines<'a> {
     stop: usize,
     at: usize,
     end: usize,
-    // Up to here no newline stands in what is not taken yet: a line may come in many small pieces, and none of it is looked at twice.
+    // Up to here no newline stands in what is not taken yet, so that a line that comes in many small pieces is not searched anew with each.
     searched: usize,
     count: u64,
     is_end: bool,
