@@ -14,10 +14,14 @@ use front::status::Status;
 use names::answer::Answering;
 use names::lines::Lines;
 use std::rt::Env;
+use zengilvar::DmWritten;
 use zengilvar::code_index::dm_index_find;
 
 // All records, two bytes each.
 const RECORDS_ROOM: usize = 8192;
+
+// The number of the refusal of a room that is too short.
+const SHORT_ROOM: u64 = 9;
 
 // What names are looked up in, whether there are several, and the file of the names that are shown with the records.
 #[derive(Clone, Copy)]
@@ -107,15 +111,26 @@ impl<'a> Search<'a> {
         }
     }
 
-    // The records of a name, where list does not refuse it. The index is read into a room that is then free.
+    // What the library answers of a name. The index is read into a room that is then free.
+    fn ask(self, text: &mut [u8], name: &[u8], room: &mut [u8]) -> Result<DmWritten, Status> {
+        let index = read_index(self.index, text)?;
+        Ok(dm_index_find(self.plate, index, name, room))
+    }
+
+    // Whether the file is an index. The empty name is refused by none, and that its records have no room is told last.
+    fn is_index(self, text: &mut [u8]) -> Result<bool, Status> {
+        let r = self.ask(text, b"", &mut [])?;
+        Ok(matches!(r.number, 0 | SHORT_ROOM))
+    }
+
+    // The records of a name, where list does not refuse it.
     fn look_up<'b>(
         self,
         text: &mut [u8],
         name: &[u8],
         room: &'b mut [u8],
     ) -> Result<Option<&'b [[u8; 2]]>, Status> {
-        let index = read_index(self.index, text)?;
-        let r = dm_index_find(self.plate, index, name, room);
+        let r = self.ask(text, name, room)?;
         match r.number {
             0 => {
                 let found = room.get(..r.length as usize).unwrap_or_default();
@@ -197,8 +212,8 @@ impl Asked<'_> {
         let names = self.named_file(&mut room)?;
         let several = odd_place(host, self.scan, true).is_some();
         let search = Search::new(self.plate, index, several, names);
-        // Whether the file is an index, asked once before the names: the empty name is refused by none. Its records go where nothing is said yet.
-        if search.look_up(text, b"", out)?.is_none() {
+        // Asked once before the names.
+        if !search.is_index(text)? {
             return Err(Unfit::Damaged.tell(index));
         }
         let mut out = Out::answers(host, out);

@@ -73,7 +73,8 @@ struct Asked<'a> {
 
 // The part for what is said; what stands behind it is for what is kept of a line of names.
 fn answers_room(out: &mut [u8]) -> &mut [u8] {
-    out.get_mut(..OUT_ROOM).unwrap_or_default()
+    let n = out.len().min(OUT_ROOM);
+    &mut out[..n]
 }
 
 // How it went, or the status of what was told instead.
@@ -110,7 +111,8 @@ fn serve(
     }
 }
 
-// How it went. The index stands in the room for a text.
+// How it went. The index stands in the room for a text. The room for what is said has any length; the names of a file that an index is made from are read into
+// it too, and a line that fills it is taken in pieces.
 pub fn run(host: Host, scan: &Scan, plate: &mut [u8], text: &mut [u8], out: &mut [u8]) -> Status {
     serve(host, scan, plate, text, out).unwrap_or_else(|status| status)
 }

@@ -51,9 +51,13 @@ impl<'a> Lines<'a> {
         }
     }
 
-    // Each read is of one length, whatever is kept of a line: how much was read is seen where the answers are not taken any more.
+    // Each read is of one length, whatever is kept of a line: how much was read is seen where the answers are not taken any more. In a short chunk this would leave
+    // few bytes for a read or none, and each takes what is free.
     pub fn even(mut self) -> Lines<'a> {
-        self.reads = self.chunk.len().saturating_sub(LINE_MOST);
+        let reads = self.chunk.len().saturating_sub(LINE_MOST);
+        if LINE_MOST < reads {
+            self.reads = reads;
+        }
         self
     }
 
