@@ -112,7 +112,7 @@ fn serve(
 }
 
 // How it went. The index stands in the room for a text. The room for what is said has any length; the names of a file that an index is made from are read into
-// it too, and a line that fills it is taken in pieces.
+// it too, and in one of 261 bytes or less a line that fills it is taken in pieces.
 pub fn run(host: Host, scan: &Scan, plate: &mut [u8], text: &mut [u8], out: &mut [u8]) -> Status {
     serve(host, scan, plate, text, out).unwrap_or_else(|status| status)
 }
